@@ -1,0 +1,3 @@
+pub mod Terms
+pub mod Limits
+pub mod Sums
