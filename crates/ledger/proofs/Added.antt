@@ -13,6 +13,7 @@ use Rattle.std.proofs.shelf.Lists.{take-more-set, take-take}
 use Rattle.std.proofs.shelf.Tests.{cases-lt}
 use Rattle.std.proofs.shelf.Sums.{folded-push, folded-more}
 use Rattle.std.proofs.shelf.Signed.{ints}
+use Rattle.market.proofs.Fronts.{counted-all}
 use Rattle.market.specs.Sums.{counted, sharesOn, sumOn}
 use Rattle.market.specs.declared.side.Side.{Side}
 use Rattle.market.specs.declared.side.Side.the-variants.{Buy, SellLong, SellShort}
@@ -42,10 +43,6 @@ pub by-sides : {X : Type 0} (side : X → Side) (f : X → ℕ) (xs : List X) �
 by-sides side f xs = parts side f 0 0 xs
 
 -- fronts of a list
-counted-all : {X : Type 0} (xs : List X) → length xs ≤ 65536 → counted xs ≡ xs
-unfolding counted
-counted-all xs h = take-all 65536 xs h
-
 counted-front : {X : Type 0} (n : ℕ) (xs : List X) → n ≤ 65536 → counted (take n xs) ≡ take n xs
 counted-front n xs h =
     let few : length (take n xs) ≤ 65536 = simp length-take (omega arith) in
