@@ -5,4 +5,3 @@ pub mod Quotes
 pub mod Cuts
 pub mod Books
 pub mod Law
-pub mod Examples

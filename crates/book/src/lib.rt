@@ -3,7 +3,6 @@ pub mod book;
 pub mod book_orders;
 pub mod book_passes;
 mod cuts;
-pub mod examples;
 pub mod lawful;
 pub mod order;
 pub mod pass;

@@ -15,6 +15,7 @@ use Rattle.std.proofs.shelf.Elements.{kept-by-append}
 use Rattle.std.proofs.shelf.Sums.{sumBy-append, sumBy-more}
 use Rattle.std.proofs.shelf.Lists.{take-more-set}
 use Rattle.std.proofs.shelf.Signed.{ints}
+use Rattle.std.proofs.shelf.Tests.{cond-true, cond-false, ne-eqb}
 use Rattle.std.proofs.shelf.Ways.{tells, eqb-tells}
 use Rattle.std.specs.declared.option.Option.{Option}
 use Rattle.std.specs.declared.option.Option.the-variants.{Some, None}
@@ -27,8 +28,8 @@ use Rattle.market.specs.declared.side.Side.{Side}
 use Rattle.market.specs.declared.side.Side.the-variants.{Buy, SellLong, SellShort}
 use Rattle.market.specs.declared.side.MarketSide.{MarketSide}
 use Rattle.market.specs.declared.side.MarketSide.the-variants.{Buying, Selling}
-use Rattle.ledger.specs.Posting.{Numbers, Agree, Posted, answerOf, inField, refusalOf, settledBy, signed}
-use Rattle.ledger.specs.Law.{AddsUp, fits, judged, no-posting, outcomeOf, accepted}
+use Rattle.ledger.specs.Posting.{Numbers, Agree, Posted, answerOf, inField, moved, refusalOf, settledBy, signed}
+use Rattle.ledger.specs.Law.{AddsUp, MovedBy, fits, judged, no-posting, outcomeOf, accepted}
 use Rattle.ledger.specs.declared.postings.Outcome.{Outcome}
 use Rattle.ledger.specs.declared.postings.Posting.{Posting}
 
@@ -55,21 +56,36 @@ has-place places n p e = grind (arith, tells)
 same : (a b : ℤ) → a ≡ b → a ≡ b +ℤ (pos 0 -ℤ pos 0)
 same a b h = omega (arith, ints)
 
-by-reason : (o : Option Refusal) (x : Posting) (before after : Numbers) → o ≡ refusalOf (before .places) (x .shares) (x .price) → Agree after (settledBy o (x .side) (x .shares) (x .price) before) → AddsUp before (noted x (outcomeOf (answerOf o)) ∷ []) after
-by-reason None x before after e a =
-    let one = has-place (before .places) (x .shares) (x .price) e in
+-- an accepted post moves a ledger by its record
+pub moved-one : {X : Type 0} (side : X → Side) (shares price : X → ℕ) (x : X) (before after : Numbers) → Agree after (moved (side x) (shares x) (price x) before) → 0 < before .places → MovedBy side shares price before (x ∷ []) after
+moved-one side shares price x before after a one =
     let left = a .places in
     record {
-      shares = lower (after .shares) (before .shares) (signed (x .side) (pos (x .shares))) (0 + sharesOn Buying (x .side) (x .shares)) (0 + sharesOn Selling (x .side) (x .shares)) (a .shares) (split (x .side) (x .shares));
-      money = raise (after .money) (before .money) (signed (x .side) (pos (x .shares * x .price))) (0 + sharesOn Buying (x .side) (x .shares * x .price)) (0 + sharesOn Selling (x .side) (x .shares * x .price)) (a .money) (split (x .side) (x .shares * x .price));
-      places = omega arith;
+      shares-move = lower (after .shares) (before .shares) (signed (side x) (pos (shares x))) (0 + sharesOn Buying (side x) (shares x)) (0 + sharesOn Selling (side x) (shares x)) (a .shares) (split (side x) (shares x));
+      money-moves = raise (after .money) (before .money) (signed (side x) (pos (shares x * price x))) (0 + sharesOn Buying (side x) (shares x * price x)) (0 + sharesOn Selling (side x) (shares x * price x)) (a .money) (split (side x) (shares x * price x));
+      places-fall = omega arith;
     }
-by-reason (Some r) x before after e a =
+
+-- and a refused one by none
+pub moved-none : {X : Type 0} (side : X → Side) (shares price : X → ℕ) (before after : Numbers) → Agree after before → MovedBy side shares price before [] after
+moved-none side shares price before after a =
     record {
-      shares = same (after .shares) (before .shares) (a .shares);
-      money = same (after .money) (before .money) (a .money);
-      places = let left = a .places in omega arith;
+      shares-move = same (after .shares) (before .shares) (a .shares);
+      money-moves = same (after .money) (before .money) (a .money);
+      places-fall = let left = a .places in omega arith;
     }
+
+by-reason : (o : Option Refusal) (x : Posting) (before after : Numbers) → o ≡ refusalOf (before .places) (x .shares) (x .price) → Agree after (settledBy o (x .side) (x .shares) (x .price) before) → AddsUp before (noted x (outcomeOf (answerOf o)) ∷ []) after
+by-reason None x before after e a =
+    moved-one (λ x. x .side) (λ x. x .shares) (λ x. x .price) (noted x (outcomeOf (answerOf None))) before after a (has-place (before .places) (x .shares) (x .price) e)
+by-reason (Some r) x before after e a = moved-none (λ x. x .side) (λ x. x .shares) (λ x. x .price) before after a
+
+-- a post with its fields in range to a ledger with a place is accepted
+pub posted-moves : (side : Side) (n p : ℕ) (before after : Numbers) (r : Result (Unit {0}) Refusal) → Posted side n p before r after → inField n p ≡ true → 0 < before .places → Agree after (moved side n p before)
+posted-moves side n p before after r h fields room =
+    let some : eqb (before .places) 0 ≡ false = ne-eqb (before .places) 0 (λ z. omega arith) in
+    let none : refusalOf (before .places) n p ≡ None = cond-true (inField n p) (cond (eqb (before .places) 0) (Some LedgerFull) None) (Some BadField) fields ∙ cond-false (eqb (before .places) 0) (Some LedgerFull) None some in
+    subst (λ (o : Option Refusal). Agree after (settledBy o side n p before)) none (h .moves)
 
 -- the law for one posting
 pub adds-one : (x : Posting) (before after : Numbers) (r : Result (Unit {0}) Refusal) (o : Outcome) → o ≡ outcomeOf r → Posted (x .side) (x .shares) (x .price) before r after → AddsUp before (noted x o ∷ []) after
@@ -89,26 +105,26 @@ places-fall x before after r h =
     let e = h .moves .places in
     elim-fits (fits x) (eqb (before .places) 0) before after (x .side) (x .shares) (x .price) (eqb-tells (before .places) 0) e
 
--- sums over the accepted ones of two lists
-joined : (f : Posting → ℕ) (which : MarketSide) (xs ys : List Posting) → sumOn (λ x. x .side) f which (kept-by accepted (xs ++ ys)) ≡ sumOn (λ x. x .side) f which (kept-by accepted xs) + sumOn (λ x. x .side) f which (kept-by accepted ys)
-joined f which xs ys =
-    ap (sumOn (λ x. x .side) f which) (kept-by-append accepted xs ys)
-    ∙ sumBy-append (λ x. sharesOn which (x .side) (f x)) (kept-by accepted xs) (kept-by accepted ys)
-
 over : (a b c : ℤ) (p q r s t u : ℕ) → b ≡ a +ℤ (pos p -ℤ pos q) → c ≡ b +ℤ (pos r -ℤ pos s) → t ≡ p + r → u ≡ q + s → c ≡ a +ℤ (pos t -ℤ pos u)
 over a b c p q r s t u h k m n = omega (arith, ints)
+
+-- moved by one list after another
+pub moved-both : {X : Type 0} (side : X → Side) (shares price : X → ℕ) (a b c : Numbers) (xs ys : List X) → MovedBy side shares price a xs b → MovedBy side shares price b ys c → MovedBy side shares price a (xs ++ ys) c
+moved-both side shares price a b c xs ys h k =
+    let n = length-append xs ys in
+    let p = h .places-fall in
+    let q = k .places-fall in
+    record {
+      shares-move = over (a .shares) (b .shares) (c .shares) _ _ _ _ _ _ (h .shares-move) (k .shares-move) (sumBy-append (λ x. sharesOn Selling (side x) (shares x)) xs ys) (sumBy-append (λ x. sharesOn Buying (side x) (shares x)) xs ys);
+      money-moves = over (a .money) (b .money) (c .money) _ _ _ _ _ _ (h .money-moves) (k .money-moves) (sumBy-append (λ x. sharesOn Buying (side x) (shares x * price x)) xs ys) (sumBy-append (λ x. sharesOn Selling (side x) (shares x * price x)) xs ys);
+      places-fall = omega (arith, n);
+    }
 
 -- the law for one list after another
 pub adds-both : (a b c : Numbers) (xs ys : List Posting) → AddsUp a xs b → AddsUp b ys c → AddsUp a (xs ++ ys) c
 adds-both a b c xs ys h k =
-    let n = ap length (kept-by-append accepted xs ys) ∙ length-append (kept-by accepted xs) (kept-by accepted ys) in
-    let p = h .places in
-    let q = k .places in
-    record {
-      shares = over (a .shares) (b .shares) (c .shares) _ _ _ _ _ _ (h .shares) (k .shares) (joined (λ x. x .shares) Selling xs ys) (joined (λ x. x .shares) Buying xs ys);
-      money = over (a .money) (b .money) (c .money) _ _ _ _ _ _ (h .money) (k .money) (joined (λ x. x .shares * x .price) Buying xs ys) (joined (λ x. x .shares * x .price) Selling xs ys);
-      places = omega (arith, n);
-    }
+    subst (λ (zs : List Posting). MovedBy (λ x. x .side) (λ x. x .shares) (λ x. x .price) a zs c) (sym (kept-by-append accepted xs ys))
+    (moved-both (λ x. x .side) (λ x. x .shares) (λ x. x .price) a b c (kept-by accepted xs) (kept-by accepted ys) h k)
 
 -- a loop's step over a list that is written in place: the law
 pub adds-more : (a b c : Numbers) (xs : List Posting) (i : ℕ) (y : Posting) → i < length xs → AddsUp a (take i xs) b → AddsUp b (y ∷ []) c → AddsUp a (take (i + 1) (set xs i y)) c

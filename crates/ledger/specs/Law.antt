@@ -10,8 +10,8 @@ use Rattle.std.specs.declared.result.Result.{Result}
 use Rattle.std.specs.declared.result.Result.the-variants.{Ok, Err}
 use Rattle.market.specs.Sums.{sumOn}
 use Rattle.market.specs.declared.refusal.Refusal.{Refusal}
+use Rattle.market.specs.declared.side.Side.{Side}
 use Rattle.market.specs.declared.side.Side.the-variants.{Buy}
-use Rattle.market.specs.declared.side.MarketSide.{MarketSide}
 use Rattle.market.specs.declared.side.MarketSide.the-variants.{Buying, Selling}
 use Rattle.ledger.specs.Posting.{Numbers, answerOf, inField, refusalOf}
 use Rattle.ledger.specs.declared.postings.Outcome.{Outcome}
@@ -54,16 +54,13 @@ isAccepted (Refused e) = false
 abbrev pub accepted : Posting → Bool
 accepted x = isAccepted (x .outcome)
 
--- the shares and the money of the accepted postings on a side of the market
-abbrev pub sharesAccepted : MarketSide → List Posting → ℕ
-sharesAccepted which xs = sumOn (λ x. x .side) (λ x. x .shares) which (kept-by accepted xs)
+-- a ledger's numbers moved by records that have a side, shares and a price, each of them once: shares by sold less
+-- bought, money by bought less sold, places by the count
+pub record MovedBy {X : Type 0} (side : X → Side) (shares price : X → ℕ) (before : Numbers) (xs : List X) (after : Numbers) : Type 0 where
+  pub shares-move : after .shares ≡ before .shares +ℤ (pos (sumOn side shares Selling xs) -ℤ pos (sumOn side shares Buying xs))
+  pub money-moves : after .money ≡ before .money +ℤ (pos (sumOn side (λ x. shares x * price x) Buying xs) -ℤ pos (sumOn side (λ x. shares x * price x) Selling xs))
+  pub places-fall : before .places ≡ after .places + length xs
 
-abbrev pub moneyAccepted : MarketSide → List Posting → ℕ
-moneyAccepted which xs = sumOn (λ x. x .side) (λ x. x .shares * x .price) which (kept-by accepted xs)
-
--- the law of postings: shares move by sold less bought, money by bought less sold, places fall by the count,
--- all of the accepted postings and of no other
-pub record AddsUp (before : Numbers) (xs : List Posting) (after : Numbers) : Type 0 where
-  pub shares : after .shares ≡ before .shares +ℤ (pos (sharesAccepted Selling xs) -ℤ pos (sharesAccepted Buying xs))
-  pub money : after .money ≡ before .money +ℤ (pos (moneyAccepted Buying xs) -ℤ pos (moneyAccepted Selling xs))
-  pub places : before .places ≡ after .places + length (kept-by accepted xs)
+-- the law of postings: a list of them moves a ledger by the accepted ones, and by no other
+abbrev pub AddsUp : Numbers → List Posting → Numbers → Type 0
+AddsUp before xs after = MovedBy (λ x. x .side) (λ x. x .shares) (λ x. x .price) before (kept-by accepted xs) after

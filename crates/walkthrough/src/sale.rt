@@ -59,7 +59,7 @@ fn show_order(rt: &LibcRuntime, order: &Order) -> io::Result<()> {
 }
 
 // The five numbers of a row.
-fn show_row(rt: &LibcRuntime, row: &Row) -> io::Result<()> {
+pub(crate) fn show_row(rt: &LibcRuntime, row: &Row) -> io::Result<()> {
     let number = row.number;
     let side = row.side.number();
     let shares = row.shares;

@@ -12,13 +12,20 @@ use Rattle.market.specs.declared.mark.Mark.{Mark}
 use Rattle.market.specs.declared.mark.Mark.the-variants.{Opening, Sale, Offer}
 use Rattle.market.specs.declared.side.Side.{Side}
 use Rattle.market.specs.declared.side.Side.the-variants.{Buy, SellLong, SellShort}
 use Rattle.book.specs.Passes.{rowsBy}
 use Rattle.book.specs.Quotes.{timerRow}
 use Rattle.book.specs.Sales.{afterSale, isRising, saleRows}
 use Rattle.book.specs.declared.order.Order.{Order}
 use Rattle.book.specs.declared.row.Row.{Row}
 use Rattle.book.specs.declared.quote.Quote.{Quote}
 use Rattle.book.specs.declared.sale.RoundLot.{RoundLot}
+use Rattle.market.specs.declared.refusal.Refusal.{Refusal}
+use Rattle.market.specs.declared.refusal.Refusal.the-variants.{BadField}
+use Rattle.rules.specs.Machine.{refusalOf, replyOf}
+use Rattle.rules.specs.States.{State}
+use Rattle.rules.specs.declared.call.Call.{Call}
+use Rattle.rules.specs.declared.call.Call.the-variants.{Order as OrderCall}
+use Rattle.rules.specs.declared.figures.Phase.the-variants.{Open}
 
 -- orders that came at time 0: number, side, shares, and prices as the kind has them
 abbrev pub order : ℕ → Side → Kind → ℕ → ℕ → ℕ → Order
@@ -43,6 +50,17 @@ openingAt price volume = record { price = price; volume = volume; rising = isRis
 
 abbrev pub offered : ℕ → Quote
 offered p = record { bid = None; offer = Some p }
+
+-- an open day without orders, and a call that buys so many shares at the market, above a ledger with 100 places
+abbrev pub openDay : State
+openDay =
+    record {
+      figures = record { phase = Open; unit = 100; tag = 1; time = 0; quote = offered 200100; latest = 200000; rising = false; accepted = 0 };
+      book = [];
+    }
+
+abbrev pub buys : ℕ → Call
+buys n = OrderCall (record { side = 1; kind = 1; shares = n; limit = 0; stop = 0 })
 
 pub record WorkedExamples : Type 0 where
   -- a market buy of 60 and a market sell of 40, trade at 200,000 of 100: both are filled
@@ -73,3 +91,7 @@ pub record WorkedExamples : Type 0 where
   pub opening-market :
       saleRows (openingAt 200000 10) (market 1 Buy 9 ∷ market 2 Buy 9 ∷ market 3 Buy 9 ∷ [])
       ≡ row 1 Buy 9 200000 Opening ∷ row 2 Buy 9 200000 Opening ∷ row 3 Buy 9 200000 Opening ∷ []
+  -- 99 shares are accepted, 100 and 0 refused as a bad field
+  pub size-99 : (refusalOf openDay (buys 99) 0 100 ≡ None) × (replyOf openDay (buys 99) ≡ 1)
+  pub size-100 : refusalOf openDay (buys 100) 0 100 ≡ Some BadField
+  pub size-0 : refusalOf openDay (buys 0) 0 100 ≡ Some BadField

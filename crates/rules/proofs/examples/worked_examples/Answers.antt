@@ -1,6 +1,6 @@
 use mathlib.Core.Path.{refl}
 use Rattle.book.specs.Sales.{ahead, matched, reach}
-use Rattle.book.proofs.examples.worked_examples.Needs as need
+use Rattle.rules.proofs.examples.worked_examples.Needs as need
 
 pub returns : need.returns
 unfolding ahead matched reach
@@ -18,4 +18,7 @@ returns c =
       timer-fills = refl;
       opening-limit = refl;
       opening-market = refl;
+      size-99 = (refl, refl);
+      size-100 = refl;
+      size-0 = refl;
     }

@@ -1,0 +1,4 @@
+pub mod Reading
+pub mod Stepping
+pub mod Fitting
+pub mod Wells

@@ -1,0 +1,4 @@
+pub mod States
+pub mod Machine
+pub mod Steps
+pub mod Examples
