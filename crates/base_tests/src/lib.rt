@@ -1,4 +1,6 @@
 // Tests of the market's terms and of the ledgers, and what a lender of rows is promised.
+#![tactic(auto)]
+
 #[cfg(test)]
 mod ledgers;
 pub mod lender;

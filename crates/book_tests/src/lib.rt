@@ -1,4 +1,6 @@
 // Tests of the book: the examples of the Rule's own release, the readings that are wrong, and the book's own limits.
+#![tactic(auto)]
+
 #[cfg(test)]
 mod books;
 #[cfg(test)]

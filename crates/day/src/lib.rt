@@ -1,4 +1,6 @@
 // One trading day of one stock, above any contra ledger.
+#![tactic(auto)]
+
 pub mod live;
 pub mod making;
 pub mod orders;

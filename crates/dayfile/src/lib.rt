@@ -1,4 +1,6 @@
 // Day files: words, records as parts of the file, faults with their place.
+#![tactic(auto)]
+
 pub mod counting;
 pub mod entry;
 pub mod fault;

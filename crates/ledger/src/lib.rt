@@ -1,4 +1,6 @@
 // Contra ledgers: the interface, the totals ledger, the journal of rows, and the law of any list of postings.
+#![tactic(auto)]
+
 mod amounts;
 pub mod journal;
 pub mod journal_ledger;

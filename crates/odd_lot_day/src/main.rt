@@ -1,4 +1,6 @@
 // The program: plays the day file on standard input, and prints its lines.
+#![tactic(auto)]
+
 ghost use Rattle.std.specs.Prelude.{IfOk};
 ghost use Rattle.odd_lot_day.specs.Wholes.{WholeText};
 

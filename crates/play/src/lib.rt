@@ -1,4 +1,6 @@
 // Day files played over a totals ledger, into the caller's bytes.
+#![tactic(auto)]
+
 mod calls;
 mod line;
 pub mod play;

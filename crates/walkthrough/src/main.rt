@@ -1,4 +1,6 @@
 // A walk through what is delivered: a morning booked into two ledgers, one sale, and a whole day.
+#![tactic(auto)]
+
 mod day;
 mod morning;
 mod names;
