@@ -27,14 +27,14 @@ impl Book {
 
     // How many rows a pass has.
     pub fn count<P: Pass>(&self, pass: &P) -> usize
-        ensures { result ≡ length (rows_by (leaves pass.now) (orders_of self.now)) }
+        ensures { result ≡ length (rows_by (P.leaves pass.now) (orders_of self.now)) }
     {
         count(self.orders.as_slice(), pass)
     }
 
     // Writes the rows of a pass to a report, from its first place on, or refuses where they do not fit.
     pub fn report<P: Pass>(&self, pass: &P, report: &mut [Row]) -> Result<usize, Refusal>
-        ensures { Reported (rows_by (leaves pass.now) (orders_of self.now)) report.old result report.new }
+        ensures { Reported (rows_by (P.leaves pass.now) (orders_of self.now)) report.old result report.new }
     {
         let n = self.count(pass);
         if report.len() < n {
@@ -46,7 +46,7 @@ impl Book {
 
     // Takes the orders that leave in a pass out of the book.
     pub fn settle<P: Pass>(&mut self, pass: &P)
-        ensures orders { orders_of self.new ≡ stays_by (leaves pass.now) (orders_of self.old) }
+        ensures orders { orders_of self.new ≡ stays_by (P.leaves pass.now) (orders_of self.old) }
         ensures unit { self.new.unit ≡ self.old.unit }
     {
         keep(&mut self.orders, pass);
@@ -62,7 +62,7 @@ impl Book {
 
     // Carries a pass out: its rows to the report, its orders out of the book.
     pub fn apply<P: Pass>(&mut self, pass: &P, report: &mut [Row]) -> Result<usize, Refusal>
-        ensures { Applied (leaves pass.now) self.old report.old result self.new report.new }
+        ensures { Applied (P.leaves pass.now) self.old report.old result self.new report.new }
     {
         let n = self.report(pass, report)?;
         self.settle(pass);

@@ -11,7 +11,7 @@ use market::side::MarketSide;
 
 // How many rows a pass has.
 pub(crate) fn count<P: Pass>(orders: &[Order], pass: &P) -> usize
-    ensures { result ≡ length (rows_by (leaves pass.now) orders.now) }
+    ensures { result ≡ length (rows_by (P.leaves pass.now) orders.now) }
 {
     let mut n: usize = 0;
     for order in orders {
@@ -24,8 +24,8 @@ pub(crate) fn count<P: Pass>(orders: &[Order], pass: &P) -> usize
 
 // Writes the rows of a pass from the report's first place on.
 pub(crate) fn write<P: Pass>(orders: &[Order], pass: &P, report: &mut [Row])
-    requires { length (rows_by (leaves pass.now) orders.now) ≤ length report.old }
-    ensures { report.new ≡ rows_by (leaves pass.now) orders.now ++ drop (length (rows_by (leaves pass.now) orders.now)) report.old }
+    requires { length (rows_by (P.leaves pass.now) orders.now) ≤ length report.old }
+    ensures { report.new ≡ rows_by (P.leaves pass.now) orders.now ++ drop (length (rows_by (P.leaves pass.now) orders.now)) report.old }
 {
     let mut n: usize = 0;
     for order in orders {
@@ -41,7 +41,7 @@ pub(crate) fn write<P: Pass>(orders: &[Order], pass: &P, report: &mut [Row])
 
 // Takes the orders that leave out of the book; the others keep their order.
 pub(crate) fn keep<P: Pass>(orders: &mut Vec<Order>, pass: &P)
-    ensures items { orders.new.items ≡ stays_by (leaves pass.now) orders.old.items }
+    ensures items { orders.new.items ≡ stays_by (P.leaves pass.now) orders.old.items }
     ensures capacity { vec_capacity orders.new ≡ vec_capacity orders.old }
 {
     let mut next: usize = 0;

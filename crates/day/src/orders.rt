@@ -175,7 +175,7 @@ impl<L: Ledger> Day<L> {
         limit: u32,
         stop: u32,
     ) -> Result<u32, Refusal>
-        ensures { Step (OrderCall (record { side = side; kind = kind; shares = quantity; limit = limit; stop = stop })) (state_of self.old.live) [] (numbers shares money places self.old.ledger) result (state_of self.new.live) [] (numbers shares money places self.new.ledger) }
+        ensures { Step (OrderCall (record { side = side; kind = kind; shares = quantity; limit = limit; stop = stop })) (state_of self.old.live) [] (numbers L.shares L.money L.places self.old.ledger) result (state_of self.new.live) [] (numbers L.shares L.money L.places self.new.ledger) }
     {
         let new = NewOrder {
             side,
@@ -195,7 +195,7 @@ impl<L: Ledger> Day<L> {
 
     // Takes a waiting order away, and answers its shares.
     pub fn cancel(&mut self, number: u32) -> Result<u32, Refusal>
-        ensures { Step (Cancel number) (state_of self.old.live) [] (numbers shares money places self.old.ledger) result (state_of self.new.live) [] (numbers shares money places self.new.ledger) }
+        ensures { Step (Cancel number) (state_of self.old.live) [] (numbers L.shares L.money L.places self.old.ledger) result (state_of self.new.live) [] (numbers L.shares L.money L.places self.new.ledger) }
     {
         match self.live.may_cancel(number) {
             Ok(order) => {
@@ -208,7 +208,7 @@ impl<L: Ledger> Day<L> {
 
     // Sets bid and offer; a missing one is 0.
     pub fn quote(&mut self, bid: u32, offer: u32) -> Result<(), Refusal>
-        ensures { Step (QuoteCall (record { bid = bid; offer = offer })) (state_of self.old.live) [] (numbers shares money places self.old.ledger) (quiet result) (state_of self.new.live) [] (numbers shares money places self.new.ledger) }
+        ensures { Step (QuoteCall (record { bid = bid; offer = offer })) (state_of self.old.live) [] (numbers L.shares L.money L.places self.old.ledger) (quiet result) (state_of self.new.live) [] (numbers L.shares L.money L.places self.new.ledger) }
     {
         let new = NewQuote { bid, offer };
         match self.live.refuses_quote(new) {

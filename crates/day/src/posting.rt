@@ -22,8 +22,8 @@ pub(crate) fn is_fill(mark: Mark) -> bool
 // Posts a row, unless it is a lapse.
 fn post_row<L: Ledger>(ledger: &mut L, row: &Row)
     requires fields { is_posted_well row.now ≡ true }
-    requires room { length (fills_of (row.now ∷ [])) ≤ places ledger.old }
-    ensures { PostedOnce (numbers shares money places ledger.old) (fills_of (row.now ∷ [])) (numbers shares money places ledger.new) }
+    requires room { length (fills_of (row.now ∷ [])) ≤ L.places ledger.old }
+    ensures { PostedOnce (numbers L.shares L.money L.places ledger.old) (fills_of (row.now ∷ [])) (numbers L.shares L.money L.places ledger.new) }
 {
     if is_fill(row.mark) {
         let _ = ledger.post(row.side, row.shares, row.price);
@@ -33,8 +33,8 @@ fn post_row<L: Ledger>(ledger: &mut L, row: &Row)
 // Posts the rows of a call.
 pub(crate) fn post_rows<L: Ledger>(ledger: &mut L, rows: &[Row])
     requires fields { list_all is_posted_well rows.now ≡ true }
-    requires room { length (fills_of rows.now) ≤ places ledger.old }
-    ensures { PostedOnce (numbers shares money places ledger.old) (fills_of rows.now) (numbers shares money places ledger.new) }
+    requires room { length (fills_of rows.now) ≤ L.places ledger.old }
+    ensures { PostedOnce (numbers L.shares L.money L.places ledger.old) (fills_of rows.now) (numbers L.shares L.money L.places ledger.new) }
 {
     for row in rows {
         post_row(ledger, row);

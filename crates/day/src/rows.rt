@@ -78,11 +78,11 @@ impl<L: Ledger> Day<L> {
         figures: Figures,
         report: &mut [Row],
     ) -> Result<usize, Refusal>
-        requires well { list_all is_posted_well (rows_by (leaves pass.now) (orders_of self.old.live.book)) ≡ true }
+        requires well { list_all is_posted_well (rows_by (P.leaves pass.now) (orders_of self.old.live.book)) ≡ true }
         requires fit { figures_fit figures ≡ true }
-        requires fits { list_all (order_fits figures) (stays_by (leaves pass.now) (orders_of self.old.live.book)) ≡ true }
+        requires fits { list_all (order_fits figures) (stays_by (P.leaves pass.now) (orders_of self.old.live.book)) ≡ true }
         requires unit { figures.unit ≡ self.old.live.figures.unit }
-        ensures { Carried (leaves pass.now) figures (state_of self.old.live) report.old (numbers shares money places self.old.ledger) result (state_of self.new.live) report.new (numbers shares money places self.new.ledger) }
+        ensures { Carried (P.leaves pass.now) figures (state_of self.old.live) report.old (numbers L.shares L.money L.places self.old.ledger) result (state_of self.new.live) report.new (numbers L.shares L.money L.places self.new.ledger) }
     {
         let n = settle(&mut self.live.book, &mut self.ledger, pass, report)?;
         self.live.figures = figures;
@@ -92,7 +92,7 @@ impl<L: Ledger> Day<L> {
     // Closes a day that is not closed.
     fn end(&mut self, report: &mut [Row]) -> Result<usize, Refusal>
         requires { early_refusal (state_of self.old.live) Close ≡ None }
-        ensures { Step Close (state_of self.old.live) report.old (numbers shares money places self.old.ledger) result (state_of self.new.live) report.new (numbers shares money places self.new.ledger) }
+        ensures { Step Close (state_of self.old.live) report.old (numbers L.shares L.money L.places self.old.ledger) result (state_of self.new.live) report.new (numbers L.shares L.money L.places self.new.ledger) }
     {
         let figures = self.live.figures;
         let pass = ClosePass {
@@ -108,7 +108,7 @@ impl<L: Ledger> Day<L> {
 
     // Fills at the quote, and then every order that is left lapses; the day is closed after it.
     pub fn close(&mut self, report: &mut [Row]) -> Result<usize, Refusal>
-        ensures { Step Close (state_of self.old.live) report.old (numbers shares money places self.old.ledger) result (state_of self.new.live) report.new (numbers shares money places self.new.ledger) }
+        ensures { Step Close (state_of self.old.live) report.old (numbers L.shares L.money L.places self.old.ledger) result (state_of self.new.live) report.new (numbers L.shares L.money L.places self.new.ledger) }
     {
         match self.live.figures.phase {
             Phase::Closed => Err(Refusal::DayClosed),
@@ -119,7 +119,7 @@ impl<L: Ledger> Day<L> {
     // Moves the time of a day that takes it.
     fn tick(&mut self, time: u32, report: &mut [Row]) -> Result<usize, Refusal>
         requires { early_refusal (state_of self.old.live) (Clock time) ≡ None }
-        ensures { Step (Clock time) (state_of self.old.live) report.old (numbers shares money places self.old.ledger) result (state_of self.new.live) report.new (numbers shares money places self.new.ledger) }
+        ensures { Step (Clock time) (state_of self.old.live) report.old (numbers L.shares L.money L.places self.old.ledger) result (state_of self.new.live) report.new (numbers L.shares L.money L.places self.new.ledger) }
     {
         let figures = self.live.figures;
         let quote = timer_quote(figures);
@@ -132,7 +132,7 @@ impl<L: Ledger> Day<L> {
 
     // Moves the time, and in an open day fills the orders that are due then, at the quote.
     pub fn clock(&mut self, time: u32, report: &mut [Row]) -> Result<usize, Refusal>
-        ensures { Step (Clock time) (state_of self.old.live) report.old (numbers shares money places self.old.ledger) result (state_of self.new.live) report.new (numbers shares money places self.new.ledger) }
+        ensures { Step (Clock time) (state_of self.old.live) report.old (numbers L.shares L.money L.places self.old.ledger) result (state_of self.new.live) report.new (numbers L.shares L.money L.places self.new.ledger) }
     {
         match self.live.refuses_clock(time) {
             Some(refusal) => Err(refusal),
@@ -143,7 +143,7 @@ impl<L: Ledger> Day<L> {
     // Carries a sale out: its fills, the elections, and its price as the latest.
     fn sell(&mut self, sale: RoundLot, report: &mut [Row]) -> Result<usize, Refusal>
         requires { is_price sale.price ≡ true }
-        ensures { SoldOn sale (state_of self.old.live) report.old (numbers shares money places self.old.ledger) result (state_of self.new.live) report.new (numbers shares money places self.new.ledger) }
+        ensures { SoldOn sale (state_of self.old.live) report.old (numbers L.shares L.money L.places self.old.ledger) result (state_of self.new.live) report.new (numbers L.shares L.money L.places self.new.ledger) }
     {
         let pass = self.live.book.sale(sale);
         let after = Figures {
@@ -159,7 +159,7 @@ impl<L: Ledger> Day<L> {
 
     // The first sale of the day, which opens it.
     pub fn opening(&mut self, price: u32, volume: u32, report: &mut [Row]) -> Result<usize, Refusal>
-        ensures { Step (Opening (record { price = price; volume = volume })) (state_of self.old.live) report.old (numbers shares money places self.old.ledger) result (state_of self.new.live) report.new (numbers shares money places self.new.ledger) }
+        ensures { Step (Opening (record { price = price; volume = volume })) (state_of self.old.live) report.old (numbers L.shares L.money L.places self.old.ledger) result (state_of self.new.live) report.new (numbers L.shares L.money L.places self.new.ledger) }
     {
         let new = NewSale { price, volume };
         match self.live.refuses_opening(new) {
@@ -170,7 +170,7 @@ impl<L: Ledger> Day<L> {
 
     // A sale after the opening.
     pub fn trade(&mut self, price: u32, volume: u32, report: &mut [Row]) -> Result<usize, Refusal>
-        ensures { Step (Trade (record { price = price; volume = volume })) (state_of self.old.live) report.old (numbers shares money places self.old.ledger) result (state_of self.new.live) report.new (numbers shares money places self.new.ledger) }
+        ensures { Step (Trade (record { price = price; volume = volume })) (state_of self.old.live) report.old (numbers L.shares L.money L.places self.old.ledger) result (state_of self.new.live) report.new (numbers L.shares L.money L.places self.new.ledger) }
     {
         let new = NewSale { price, volume };
         match self.live.refuses_trade(new) {

@@ -17,7 +17,7 @@ use market::refusal::Refusal;
 
 // Whether an order leaves in a pass with a row that is posted.
 fn leaves_filled<P: Pass>(pass: &P, order: &Order) -> bool
-    ensures { result ≡ leaves_filled (leaves pass.now order.now) }
+    ensures { result ≡ leaves_filled (P.leaves pass.now order.now) }
 {
     match pass.row(order) {
         Some(row) => is_fill(row.mark),
@@ -27,7 +27,7 @@ fn leaves_filled<P: Pass>(pass: &P, order: &Order) -> bool
 
 // How many rows of a pass are posted.
 fn count_fills<P: Pass>(orders: &[Order], pass: &P) -> usize
-    ensures { result ≡ length (fills_of (rows_by (leaves pass.now) orders.now)) }
+    ensures { result ≡ length (fills_of (rows_by (P.leaves pass.now) orders.now)) }
 {
     let mut n: usize = 0;
     for order in orders {
@@ -45,8 +45,8 @@ pub(crate) fn settle<P: Pass, L: Ledger>(
     pass: &P,
     report: &mut [Row],
 ) -> Result<usize, Refusal>
-    requires { list_all is_posted_well (rows_by (leaves pass.now) (orders_of book.old)) ≡ true }
-    ensures { Settled (leaves pass.now) book.old report.old (numbers shares money places ledger.old) result book.new report.new (numbers shares money places ledger.new) }
+    requires { list_all is_posted_well (rows_by (P.leaves pass.now) (orders_of book.old)) ≡ true }
+    ensures { Settled (P.leaves pass.now) book.old report.old (numbers L.shares L.money L.places ledger.old) result book.new report.new (numbers L.shares L.money L.places ledger.new) }
 {
     let n = book.count(pass);
     if report.len() < n {

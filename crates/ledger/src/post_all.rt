@@ -19,9 +19,9 @@ fn outcome_of(answer: Result<(), Refusal>) -> Outcome
 
 // Posts one, and notes what became of it.
 fn post_one<L: Ledger>(ledger: &mut L, posting: &mut Posting)
-    ensures outcome { posting.new ≡ judged (places ledger.old) posting.old }
-    ensures places { places ledger.new ≡ places ledger.old - (if fits posting.old then 1 else 0) }
-    ensures law { AddsUp (numbers shares money places ledger.old) (posting.new ∷ []) (numbers shares money places ledger.new) }
+    ensures outcome { posting.new ≡ judged (L.places ledger.old) posting.old }
+    ensures places { L.places ledger.new ≡ L.places ledger.old - (if fits posting.old then 1 else 0) }
+    ensures law { AddsUp (numbers L.shares L.money L.places ledger.old) (posting.new ∷ []) (numbers L.shares L.money L.places ledger.new) }
 {
     let answer = ledger.post(posting.side, posting.shares, posting.price);
     posting.outcome = outcome_of(answer);
@@ -29,8 +29,8 @@ fn post_one<L: Ledger>(ledger: &mut L, posting: &mut Posting)
 
 // Posts each of a list in turn, and notes in it what became of each.
 pub fn post_all<L: Ledger>(ledger: &mut L, postings: &mut [Posting])
-    ensures outcomes { Judged (places ledger.old) postings.old postings.new }
-    ensures law { AddsUp (numbers shares money places ledger.old) postings.new (numbers shares money places ledger.new) }
+    ensures outcomes { Judged (L.places ledger.old) postings.old postings.new }
+    ensures law { AddsUp (numbers L.shares L.money L.places ledger.old) postings.new (numbers L.shares L.money L.places ledger.new) }
 {
     for posting in postings.iter_mut() {
         post_one(ledger, posting);

@@ -49,7 +49,7 @@ impl<T> Test<T> for Every {
 
 // What a record adds to the sum of a side of the market, under a test.
 pub fn tested_share<T: Sided, C: Test<T>>(item: &T, which: MarketSide, test: &C) -> u32
-    ensures { result ≡ (if passes test.now item.now then shares_on which (side item.now) (shares item.now) else 0) }
+    ensures { result ≡ (if C.passes test.now item.now then shares_on which (T.side item.now) (T.shares item.now) else 0) }
 {
     if test.passes(item) {
         share_of(which, item.side(), item.shares())
@@ -60,7 +60,7 @@ pub fn tested_share<T: Sided, C: Test<T>>(item: &T, which: MarketSide, test: &C)
 
 // The shares on a side of the market, of those among the first 65,536 records that pass a test.
 pub fn shares_where<T: Sided, C: Test<T>>(records: &[T], which: MarketSide, test: &C) -> u64
-    ensures value { result ≡ sum_on side shares which (filter (passes test.now) (counted records.now)) }
+    ensures value { result ≡ sum_on T.side T.shares which (filter (C.passes test.now) (counted records.now)) }
     ensures bound { result ≤ 4294967295 * 65536 }
 {
     let first = &records[0..records.len().min(65_536)];
@@ -73,7 +73,7 @@ pub fn shares_where<T: Sided, C: Test<T>>(records: &[T], which: MarketSide, test
 
 // The shares on a side of the market, of the first 65,536 records; later ones do not count.
 pub fn shares_on<T: Sided>(records: &[T], which: MarketSide) -> u64
-    ensures value { result ≡ sum_on side shares which (counted records.now) }
+    ensures value { result ≡ sum_on T.side T.shares which (counted records.now) }
     ensures bound { result ≤ 4294967295 * 65536 }
 {
     shares_where(records, which, &Every {})

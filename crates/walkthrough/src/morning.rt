@@ -55,7 +55,7 @@ fn show_position<L: Ledger>(rt: &HostRuntime, ledger: &L) -> io::Result<()> {
 
 // Posts a list to a ledger, and shows each posting and the position after them.
 fn book<L: Ledger>(rt: &HostRuntime, ledger: &mut L, postings: &mut [Posting]) -> io::Result<()>
-    ensures { AddsUp (numbers shares money places ledger.old) postings.new (numbers shares money places ledger.new) }
+    ensures { AddsUp (numbers L.shares L.money L.places ledger.old) postings.new (numbers L.shares L.money L.places ledger.new) }
 {
     post_all(ledger, postings);
     for posting in postings.iter() {

@@ -10,6 +10,6 @@ returns c =
     let s = c.args.sale.now in
     let book = c.args.orders.now in
     let all = counted_all book (omega arith) in
-    let buys : c.shares-where-buys.result ≡ eligible_shares s Buying book = c.shares-where-buys.ensures.value ∙ ap (eligible_shares s Buying) all in
-    let sells : c.shares-where-sells.result ≡ eligible_shares s Selling book = c.shares-where-sells.ensures.value ∙ ap (eligible_shares s Selling) all in
+    let buys : c.shares_where-buys.result ≡ eligible_shares s Buying book = c.shares_where-buys.ensures.value ∙ ap (eligible_shares s Buying) all in
+    let sells : c.shares_where-sells.result ≡ eligible_shares s Selling book = c.shares_where-sells.ensures.value ∙ ap (eligible_shares s Selling) all in
     omega (arith, c.min.ensures, c.from.ensures, buys, sells)

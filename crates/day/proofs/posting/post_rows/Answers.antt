@@ -8,8 +8,8 @@ use Rattle.rules.specs.Steps.{PostedOnce}
 use Rattle.day.proofs.Postings.{posted_more, room_more}
 use Rattle.day.proofs.posting.post_rows.Goals as goal
 
-pub post-row-requires : goal.post-row-requires
-post-row-requires g c =
+pub post_row-requires : goal.post_row-requires
+post_row-requires g c =
     let m = g.L.Ledger in
     let at = numbers m.shares m.money m.places in
     let l = c.loop-row in
@@ -23,7 +23,7 @@ loop-row-preserved g c =
     let m = g.L.Ledger in
     let at = numbers m.shares m.money m.places in
     let l = c.loop-row in
-    posted_more c.args.rows.now l.row-index (at c.args.ledger.now) (at l.ledger) (at c.post-row.new.ledger) c.loop-row-test.true l.invariant c.post-row.ensures
+    posted_more c.args.rows.now l.row-index (at c.args.ledger.now) (at l.ledger) (at c.post_row.new.ledger) c.loop-row-test.true l.invariant c.post_row.ensures
 
 pub returns : goal.returns
 returns g c =

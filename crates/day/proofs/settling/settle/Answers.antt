@@ -9,12 +9,12 @@ use Rattle.rules.specs.Steps.{PostedOnce}
 use Rattle.day.proofs.Postings.{reported_front, room_enough}
 use Rattle.day.proofs.settling.settle.Goals as goal
 
-pub post-rows-requires : goal.post-rows-requires
-post-rows-requires g c =
+pub post_rows-requires : goal.post_rows-requires
+post_rows-requires g c =
     let rows = rows_by (g.P.Pass.leaves c.args.pass.now) (orders_of c.args.book.now) in
     let fit : c.count-n.result ≤ length c.args.report.now = search rules in
     let front = reported_front rows c.args.report.now c.report.new.report c.count-n.result c.report.result c.report.ensures c.count-n.ensures fit in
-    let few : length (fills_of rows) ≤ g.L.Ledger.places c.args.ledger.now = omega (arith, c.if-places-count-fills.false, c.count-fills.ensures ∙ ap (λ l. length (fills_of (rows_by (g.P.Pass.leaves c.args.pass.now) l))) c.orders.ensures, c.places.ensures) in
+    let few : length (fills_of rows) ≤ g.L.Ledger.places c.args.ledger.now = omega (arith, c.if-places-count_fills.false, c.count_fills.ensures ∙ ap (λ l. length (fills_of (rows_by (g.P.Pass.leaves c.args.pass.now) l))) c.orders.ensures, c.places.ensures) in
     record { fields = ap (list_all is_posted_well) front.0 ∙ c.requires; room = omega (arith, ap (λ l. length (fills_of l)) front.0, few) }
 
 pub returns : goal.returns
@@ -24,11 +24,11 @@ returns g c =
     let rows = rows_by (g.P.Pass.leaves c.args.pass.now) (orders_of c.args.book.now) in
     let fit : c.count-n.result ≤ length c.args.report.now = search rules in
     let front = reported_front rows c.args.report.now c.report.new.report c.count-n.result c.report.result c.report.ensures c.count-n.ensures fit in
-    let few : length (fills_of rows) ≤ m.places c.args.ledger.now = omega (arith, c.if-places-count-fills.false, c.count-fills.ensures ∙ ap (λ l. length (fills_of (rows_by (g.P.Pass.leaves c.args.pass.now) l))) c.orders.ensures, c.places.ensures) in (
+    let few : length (fills_of rows) ≤ m.places c.args.ledger.now = omega (arith, c.if-places-count_fills.false, c.count_fills.ensures ∙ ap (λ l. length (fills_of (rows_by (g.P.Pass.leaves c.args.pass.now) l))) c.orders.ensures, c.places.ensures) in (
       room_enough rows (length c.args.report.now) (m.places c.args.ledger.now) (omega (arith, fit, c.count-n.ensures)) few,
       c.count-n.ensures,
       front.1,
       c.settle.ensures.orders,
       c.settle.ensures.unit,
-      subst (λ (l : List Row). PostedOnce (at c.args.ledger.now) (fills_of l) (at c.post-rows.new.ledger)) front.0 c.post-rows.ensures,
+      subst (λ (l : List Row). PostedOnce (at c.args.ledger.now) (fills_of l) (at c.post_rows.new.ledger)) front.0 c.post_rows.ensures,
     )

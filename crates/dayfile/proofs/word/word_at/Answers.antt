@@ -4,5 +4,5 @@ use Rattle.dayfile.proofs.word.word_at.Goals as goal
 
 pub returns-in-Some : goal.returns-in-Some
 returns-in-Some c =
-    word_read c.args.rest.now c.args.at c.from-be-bytes-word.result c.in-Some.kind (omega arith) c.type-inv.rest
-    c.from-be-bytes-word.ensures (sym c.from-number.ensures ∙ c.in-Some.is)
+    word_read c.args.rest.now c.args.at c.from_be_bytes-word.result c.in-Some.kind (omega arith) c.type_inv.rest
+    c.from_be_bytes-word.ensures (sym c.from_number.ensures ∙ c.in-Some.is)

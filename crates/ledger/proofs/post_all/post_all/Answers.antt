@@ -15,11 +15,11 @@ loop-posting-preserved g c =
     let left : ℕ → ℕ = λ k. n - count_by fits (take k xs) in
     let within : i < length l.postings = omega arith in
     let same : get_or l.postings i no_posting ≡ get_or xs i no_posting = l.invariant.3 i (omega arith) in (
-      adds_more (at c.args.ledger.now) (at l.ledger) (at c.post-one.new.ledger) l.postings i c.post-one.new.posting within l.invariant.0 c.post-one.ensures.law,
-      places_more xs i (m.places c.post-one.new.ledger) n (m.places l.ledger) (get_or l.postings i no_posting) c.loop-posting-test.true same l.invariant.1 c.post-one.ensures.places,
-      judged_more xs l.postings i c.post-one.new.posting left within l.invariant.2
-          (c.post-one.ensures.outcome ∙ ap (λ p. judged p (get_or l.postings i no_posting)) l.invariant.1 ∙ ap (judged (left i)) same),
-      kept_more xs l.postings i c.post-one.new.posting l.invariant.3,
+      adds_more (at c.args.ledger.now) (at l.ledger) (at c.post_one.new.ledger) l.postings i c.post_one.new.posting within l.invariant.0 c.post_one.ensures.law,
+      places_more xs i (m.places c.post_one.new.ledger) n (m.places l.ledger) (get_or l.postings i no_posting) c.loop-posting-test.true same l.invariant.1 c.post_one.ensures.places,
+      judged_more xs l.postings i c.post_one.new.posting left within l.invariant.2
+          (c.post_one.ensures.outcome ∙ ap (λ p. judged p (get_or l.postings i no_posting)) l.invariant.1 ∙ ap (judged (left i)) same),
+      kept_more xs l.postings i c.post_one.new.posting l.invariant.3,
     )
 
 pub returns : goal.returns

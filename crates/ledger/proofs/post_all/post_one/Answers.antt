@@ -11,5 +11,5 @@ returns g c =
     record {
       outcome = cc;
       places = places_fall c.args.posting.now before after c.post-answer.result c.post-answer.ensures;
-      law = adds_one c.args.posting.now before after c.post-answer.result c.outcome-of-posting.result c.outcome-of-posting.ensures c.post-answer.ensures;
+      law = adds_one c.args.posting.now before after c.post-answer.result c.outcome_of-posting.result c.outcome_of-posting.ensures c.post-answer.ensures;
     }

@@ -7,6 +7,6 @@ pub returns : goal.returns
 returns g c =
     let m = g.T.Sided in
     record {
-      value = c.shares-where.ensures.value ∙ ap (sum_on m.side m.shares c.args.which) (kept_every (counted c.args.records.now));
-      bound = c.shares-where.ensures.bound;
+      value = c.shares_where.ensures.value ∙ ap (sum_on m.side m.shares c.args.which) (kept_every (counted c.args.records.now));
+      bound = c.shares_where.ensures.bound;
     }

@@ -7,15 +7,15 @@ use Rattle.play.proofs.calls.make_call.Goals as goal
 
 pub returns-in-Order : goal.returns-in-Order
 returns-in-Order c =
-    quiet_made c.args.call _ (state_of c.args.day.now.live) c.args.report.now (totals_of c.args.day.now.ledger) c.order.result c.no-rows.result (state_of c.order.new.self.live) (totals_of c.order.new.self.ledger) c.in-Order.is c.no-rows.ensures refl c.order.ensures
+    quiet_made c.args.call _ (state_of c.args.day.now.live) c.args.report.now (totals_of c.args.day.now.ledger) c.order.result c.no_rows.result (state_of c.order.new.self.live) (totals_of c.order.new.self.ledger) c.in-Order.is c.no_rows.ensures refl c.order.ensures
 
 pub returns-in-Cancel : goal.returns-in-Cancel
 returns-in-Cancel c =
-    quiet_made c.args.call _ (state_of c.args.day.now.live) c.args.report.now (totals_of c.args.day.now.ledger) c.cancel.result c.no-rows-in-Cancel.result (state_of c.cancel.new.self.live) (totals_of c.cancel.new.self.ledger) c.in-Cancel.is c.no-rows-in-Cancel.ensures refl c.cancel.ensures
+    quiet_made c.args.call _ (state_of c.args.day.now.live) c.args.report.now (totals_of c.args.day.now.ledger) c.cancel.result c.no_rows-in-Cancel.result (state_of c.cancel.new.self.live) (totals_of c.cancel.new.self.ledger) c.in-Cancel.is c.no_rows-in-Cancel.ensures refl c.cancel.ensures
 
 pub returns-in-Quote : goal.returns-in-Quote
 returns-in-Quote c =
-    quiet_made c.args.call _ (state_of c.args.day.now.live) c.args.report.now (totals_of c.args.day.now.ledger) (quiet c.quote.result) c.no-rows-in-Quote.result (state_of c.quote.new.self.live) (totals_of c.quote.new.self.ledger) c.in-Quote.is (c.no-rows-in-Quote.ensures ∙ sym (quiet_none c.quote.result)) refl c.quote.ensures
+    quiet_made c.args.call _ (state_of c.args.day.now.live) c.args.report.now (totals_of c.args.day.now.ledger) (quiet c.quote.result) c.no_rows-in-Quote.result (state_of c.quote.new.self.live) (totals_of c.quote.new.self.ledger) c.in-Quote.is (c.no_rows-in-Quote.ensures ∙ sym (quiet_none c.quote.result)) refl c.quote.ensures
 
 pub returns-in-Clock : goal.returns-in-Clock
 returns-in-Clock c =

@@ -12,18 +12,18 @@ pub returns-in-Ok : goal.returns-in-Ok
 returns-in-Ok c =
     let s = state_of c.args.day.now.live in
     let report = c.args.report.now in
-    let reported = c.make-call.new.report in
+    let reported = c.make_call.new.report in
     let done = c.in-Ok.ensures in
     let rows = rows_front (rows_of s c.args.call) report reported c.in-Ok.n done.2 done.1.0 in
-    let wrote = subst (λ (l : List Row). Wrote (map RowLine l) c.args.out.now c.args.page c.print-rows.new.out c.print-rows.result) rows c.print-rows.ensures.wrote in
+    let wrote = subst (λ (l : List Row). Wrote (map RowLine l) c.args.out.now c.args.page c.print_rows.new.out c.print_rows.result) rows c.print_rows.ensures.wrote in
     record {
-      advanced = advanced_rows c.args.call c.args.record s report (totals_of c.args.day.now.ledger) c.in-Ok.n (state_of c.make-call.new.day.live) reported (totals_of c.make-call.new.day.ledger) c.args.out.now c.print-rows.new.out c.args.page c.print-rows.result c.requires done wrote;
-      bound = omega (arith, c.print-rows.ensures.bound, ap length rows, done.1.0, done.1.1, c.requires);
+      advanced = advanced_rows c.args.call c.args.record s report (totals_of c.args.day.now.ledger) c.in-Ok.n (state_of c.make_call.new.day.live) reported (totals_of c.make_call.new.day.ledger) c.args.out.now c.print_rows.new.out c.args.page c.print_rows.result c.requires done wrote;
+      bound = omega (arith, c.print_rows.ensures.bound, ap length rows, done.1.0, done.1.1, c.requires);
     }
 
 pub returns-in-Err : goal.returns-in-Err
 returns-in-Err c =
     record {
-      advanced = advanced_refused c.args.call c.args.record (state_of c.args.day.now.live) c.args.report.now (totals_of c.args.day.now.ledger) c.in-Err.reason (state_of c.make-call.new.day.live) c.make-call.new.report (totals_of c.make-call.new.day.ledger) c.args.out.now c.print.new.out c.args.page c.print.result c.requires c.in-Err.ensures c.print.ensures.wrote;
+      advanced = advanced_refused c.args.call c.args.record (state_of c.args.day.now.live) c.args.report.now (totals_of c.args.day.now.ledger) c.in-Err.reason (state_of c.make_call.new.day.live) c.make_call.new.report (totals_of c.make_call.new.day.ledger) c.args.out.now c.print.new.out c.args.page c.print.result c.requires c.in-Err.ensures c.print.ensures.wrote;
       bound = omega (arith, c.print.ensures.bound);
     }

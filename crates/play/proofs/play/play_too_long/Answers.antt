@@ -9,8 +9,8 @@ use Rattle.play.proofs.play.play_too_long.Goals as goal
 
 pub returns : goal.returns
 returns c file long =
-    let f = c.too-long-fault.result in
+    let f = c.too_long-fault.result in
     let was = c.args.out.now in
     played file was c.finish.new.out c.finish.result [] (Some f)
-    (subst (λ (x : Fault). FileReads file [] (Some x)) (sym c.too-long-fault.ensures) (too_long long))
+    (subst (λ (x : Fault). FileReads file [] (Some x)) (sym c.too_long-fault.ensures) (too_long long))
     (subst (λ (n : ℕ). Finished was (lines_of [] (Some f)) n c.finish.new.out c.finish.result) c.number.ensures (c.finish.ensures was [] (page_none was)))

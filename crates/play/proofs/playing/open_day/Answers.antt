@@ -8,11 +8,11 @@ use Rattle.play.proofs.playing.open_day.Goals as goal
 
 pub returns-in-Err : goal.returns-in-Err
 returns-in-Err c =
-    let a = c.making-in-unit.result in
+    let a = c.making_in-unit.result in
     let s = state_of c.new-day.result.0.live in
     let made = subst (λ (r : Result (Unit {0}) Refusal). Made a.0 a.1 a.2 r s) c.in-Err.is c.new-day.ensures.made in
     record {
       at = refused_day a.0 a.1 a.2 c.in-Err.reason (instruction_of c.args.entry) s (totals_of c.new-day.result.0.ledger) c.args.out.now c.print.new.out c.print.result
-          c.making-in-unit.ensures made (ap totals_of c.new-day.ensures.ledger ∙ c.zero-totals.ensures) c.print.ensures.wrote;
+          c.making_in-unit.ensures made (ap totals_of c.new-day.ensures.ledger ∙ c.zero_totals.ensures) c.print.ensures.wrote;
       bound = omega (arith, c.print.ensures.bound);
     }

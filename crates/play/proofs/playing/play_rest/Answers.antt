@@ -10,44 +10,44 @@ use Rattle.play.specs.Steps.{Reached, totals_of}
 use Rattle.play.proofs.Reaching.{later_record, reached_end, reached_fault, reached_more}
 use Rattle.play.proofs.playing.play_rest.Goals as goal
 
-pub call-in-call-requires : goal.call-in-call-requires
-call-in-call-requires c =
+pub call_in-call-requires : goal.call_in-call-requires
+call_in-call-requires c =
     let past : 0 < c.loop-place.place = omega (arith, c.loop-place.invariant.3, c.loop-place.invariant.5) in
-    let stands = later_record c.args.file.now c.loop-place.place c.in-ok-found.found.record past c.in-ok-found.ensures.0 in
+    let stands = later_record c.args.file.now c.loop-place.place c.in_ok-found.found.record past c.in_ok-found.ensures.0 in
     ap is_start c.entry.ensures ∙ stands.in_place
 
 pub loop-place-preserved : goal.loop-place-preserved
 loop-place-preserved c =
     let file = c.args.file.now in
     let at = c.loop-place.place in
-    let x = c.in-ok-found.found.record in
+    let x = c.in_ok-found.found.record in
     let past : 0 < at = omega (arith, c.loop-place.invariant.3, c.loop-place.invariant.5) in
-    let stands = later_record file at x past c.in-ok-found.ensures.0 in
+    let stands = later_record file at x past c.in_ok-found.ensures.0 in
     let size : length (part_of x) ≡ length c.part.result.now = ap length (sym c.part.ensures) in
     let some = part_some _ (drop at file) x stands in
     let inside = part_inside _ file at x c.loop-place.invariant.4 stands in
-    let is : instruction_of (entry_of x) ≡ call c.call-in-call.result = ap instruction_of (sym c.entry.ensures) ∙ c.call-in-call.ensures in (
+    let is : instruction_of (entry_of x) ≡ call c.call_in-call.result = ap instruction_of (sym c.entry.ensures) ∙ c.call_in-call.ensures in (
       λ was es reached.
           let r = c.loop-place.invariant.0 was es reached in (
             r.0 ++ entry_of x ∷ [],
-            subst (λ (n : ℕ). Reached file (r.0 ++ entry_of x ∷ []) (at + n) (c.loop-place.record + 1) was (state_of c.play-call.new.day.live) (totals_of c.play-call.new.day.ledger) c.play-call.new.out c.play-call.result) size
-                (reached_more file r.0 at c.loop-place.record was (state_of c.loop-place.day.live) (totals_of c.loop-place.day.ledger) c.loop-place.out c.loop-place.page x c.call-in-call.result (state_of c.play-call.new.day.live) (totals_of c.play-call.new.day.ledger) c.play-call.new.out c.play-call.result r.1 stands is c.play-call.ensures.advanced),
+            subst (λ (n : ℕ). Reached file (r.0 ++ entry_of x ∷ []) (at + n) (c.loop-place.record + 1) was (state_of c.play_call.new.day.live) (totals_of c.play_call.new.day.ledger) c.play_call.new.out c.play_call.result) size
+                (reached_more file r.0 at c.loop-place.record was (state_of c.loop-place.day.live) (totals_of c.loop-place.day.ledger) c.loop-place.out c.loop-place.page x c.call_in-call.result (state_of c.play_call.new.day.live) (totals_of c.play_call.new.day.ledger) c.play_call.new.out c.play_call.result r.1 stands is c.play_call.ensures.advanced),
           ),
       search rules,
-      omega (arith, c.play-call.ensures.bound, c.loop-place.invariant.2),
+      omega (arith, c.play_call.ensures.bound, c.loop-place.invariant.2),
       omega (arith, some, size, c.loop-place.invariant.3),
       omega (arith, inside, size),
       omega (arith, c.loop-place.invariant.5),
     )
 
-pub returns-in-err-found : goal.returns-in-err-found
-returns-in-err-found c =
-    let p = err_from_is_err_and c.from-residual.result c.from-residual.ensures.1 in
-    let q = c.in-err-found.ensures in
+pub returns-in_err-found : goal.returns-in_err-found
+returns-in_err-found c =
+    let p = err_from_is_err_and c.from_residual.result c.from_residual.ensures.1 in
+    let q = c.in_err-found.ensures in
     record {
       played = λ was es reached.
           let r = c.loop-place.invariant.0 was es reached in
-          rw (p.1, p.2) (reached_fault c.args.file.now r.0 c.loop-place.place c.loop-place.record was (state_of c.loop-place.day.live) (totals_of c.loop-place.day.ledger) c.loop-place.out c.loop-place.page c.in-err-found.field-0.0 r.1 c.loop-place-test.true q.0 q.1 q.2);
+          rw (p.1, p.2) (reached_fault c.args.file.now r.0 c.loop-place.place c.loop-place.record was (state_of c.loop-place.day.live) (totals_of c.loop-place.day.ledger) c.loop-place.out c.loop-place.page c.in_err-found.field-0.0 r.1 c.loop-place-test.true q.0 q.1 q.2);
       bound = omega (arith, c.loop-place.invariant.2, c.loop-place.invariant.3, c.loop-place.invariant.4, c.requires.short);
     }
 

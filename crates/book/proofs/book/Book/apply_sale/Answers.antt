@@ -24,18 +24,18 @@ done s f before between after report reported n same h e u = (
   u ∙ h.2,
 )
 
-pub returns-in-err-n : goal.returns-in-err-n
-returns-in-err-n c =
-    let p = err_from_is_err_and c.from-residual.result c.from-residual.ensures.1 in
+pub returns-in_err-n : goal.returns-in_err-n
+returns-in_err-n c =
+    let p = err_from_is_err_and c.from_residual.result c.from_residual.ensures.1 in
     record {
       law = trade_law c.args.sale (orders_of c.args.self.now) c.args.self.now.rising;
       sold = rw (p.1, p.2)
-          (refused c.args.sale (cut_row c.sale-pass.result) c.args.self.now c.apply.new.self c.args.report.now c.apply.new.report _ c.sale-pass.ensures.rows c.in-err-n.ensures);
+          (refused c.args.sale (cut_row c.sale-pass.result) c.args.self.now c.apply.new.self c.args.report.now c.apply.new.report _ c.sale-pass.ensures.rows c.in_err-n.ensures);
     }
 
 pub returns : goal.returns
 returns c =
     record {
       law = trade_law c.args.sale (orders_of c.args.self.now) c.args.self.now.rising;
-      sold = done c.args.sale (cut_row c.sale-pass.result) c.args.self.now c.apply.new.self c.elect.new.self c.args.report.now c.apply.new.report c.in-ok-n.n c.sale-pass.ensures.rows c.in-ok-n.ensures c.elect.ensures.orders c.elect.ensures.unit;
+      sold = done c.args.sale (cut_row c.sale-pass.result) c.args.self.now c.apply.new.self c.elect.new.self c.args.report.now c.apply.new.report c.in_ok-n.n c.sale-pass.ensures.rows c.in_ok-n.ensures c.elect.ensures.orders c.elect.ensures.unit;
     }

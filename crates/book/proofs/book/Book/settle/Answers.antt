@@ -5,21 +5,16 @@ use Rattle.book.specs.declared.order.Order.{Order}
 use Rattle.book.proofs.Books.{kept_le, pass_kept, rises_kept}
 use Rattle.book.proofs.book.Book.settle.Goals as goal
 
-pub invariant-of-self : goal.invariant-of-self
-invariant-of-self g c =
+pub invariant_of-self : goal.invariant_of-self
+invariant_of-self g c =
     let b = c.args.self.now in
     let book = vec_items b.orders in
     let p : Order → Bool = λ o. not (is_some (g.P.Pass.leaves c.args.pass.now o)) in
-    let items = c.keep.ensures.items in (
-      omega (arith, ap length items, kept_le p book, b.few, b.orders.ok.0, c.keep.new.orders.ok.0),
-      (
-        omega (arith, c.keep.ensures.capacity, b.reserved),
-        (
-          b.units,
-          (
-            subst (λ (l : List Order). list_all (lawful b.unit) l ≡ true) (sym items) (pass_kept (lawful b.unit) p book b.lawful),
-            (subst (λ (l : List Order). rises l ≡ true) (sym items) (rises_kept p book b.rising), tt),
-          ),
-        ),
-      ),
-    )
+    let items = c.keep.ensures.items in
+    record {
+      few = omega (arith, ap length items, kept_le p book, b.few, b.orders.ok.0, c.keep.new.orders.ok.0);
+      reserved = omega (arith, c.keep.ensures.capacity, b.reserved);
+      units = b.units;
+      lawful = subst (λ (l : List Order). list_all (lawful b.unit) l ≡ true) (sym items) (pass_kept (lawful b.unit) p book b.lawful);
+      rising = subst (λ (l : List Order). rises l ≡ true) (sym items) (rises_kept p book b.rising);
+    }

@@ -4,10 +4,10 @@ use Rattle.rules.specs.States.{order_fits}
 use Rattle.day.proofs.Joining.{settled_fit}
 use Rattle.day.proofs.live.Day.carry.Goals as goal
 
-pub invariant-of-self : goal.invariant-of-self
-invariant-of-self g c =
+pub invariant_of-self : goal.invariant_of-self
+invariant_of-self g c =
     let m = g.L.Ledger in
     let at = numbers m.shares m.money m.places in
     let d = c.args.self.now in
     let kept = settled_fit (order_fits d.live.figures) (g.P.Pass.leaves c.args.pass.now) d.live.book c.args.report.now (at d.ledger) c.settle.result c.settle.new.book c.settle.new.report (at c.settle.new.ledger) c.settle.ensures d.live.fits in
-    (d.live.fit, (kept.0, (kept.1 ∙ d.live.unit, tt)))
+    record { fit = d.live.fit; fits = kept.0; unit = kept.1 ∙ d.live.unit }

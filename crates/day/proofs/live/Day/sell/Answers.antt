@@ -26,17 +26,17 @@ carry-requires g c =
       unit = refl;
     }
 
-pub returns-in-err-n : goal.returns-in-err-n
-returns-in-err-n g c =
+pub returns-in_err-n : goal.returns-in_err-n
+returns-in_err-n g c =
     let m = g.L.Ledger in
     let at = numbers m.shares m.money m.places in
     let d = c.args.self.now in
     let sale = c.args.sale in
     let book = orders_of d.live.book in
-    let p = err_from_is_err_and c.from-residual.result c.from-residual.ensures.1 in
+    let p = err_from_is_err_and c.from_residual.result c.from_residual.ensures.1 in
     rw (p.1, p.2)
     (sold_late sale (state_of d.live) (cut_row c.sale-pass.result) (after_round_lot sale d.live.figures) c.args.report.now (at d.ledger) _ (state_of c.carry.new.self.live) c.carry.new.report (at c.carry.new.self.ledger)
-    (rows_same (cut_row c.sale-pass.result) (sale_row sale book) c.sale-pass.ensures.rows book) c.in-err-n.ensures)
+    (rows_same (cut_row c.sale-pass.result) (sale_row sale book) c.sale-pass.ensures.rows book) c.in_err-n.ensures)
 
 pub returns : goal.returns
 returns g c =
@@ -45,7 +45,7 @@ returns g c =
     let d = c.args.self.now in
     let sale = c.args.sale in
     let book = orders_of d.live.book in
-    sold_done sale (state_of d.live) (cut_row c.sale-pass.result) c.args.report.now (at d.ledger) c.in-ok-n.n (state_of c.carry.new.self.live) (state_of c.elect.new.self) c.carry.new.report (at c.carry.new.self.ledger)
+    sold_done sale (state_of d.live) (cut_row c.sale-pass.result) c.args.report.now (at d.ledger) c.in_ok-n.n (state_of c.carry.new.self.live) (state_of c.elect.new.self) c.carry.new.report (at c.carry.new.self.ledger)
     (rows_same (cut_row c.sale-pass.result) (sale_row sale book) c.sale-pass.ensures.rows book)
     (stays_same (cut_row c.sale-pass.result) (sale_row sale book) c.sale-pass.ensures.rows book)
-    c.in-ok-n.ensures c.elect.ensures
+    c.in_ok-n.ensures c.elect.ensures

@@ -8,16 +8,15 @@ use Rattle.rules.proofs.Fitting.{accepted_fits}
 use Rattle.day.proofs.Joining.{joined_fit, joins}
 use Rattle.day.proofs.live.Live.join.Goals as goal
 
-pub invariant-of-self : goal.invariant-of-self
-invariant-of-self c =
+pub invariant_of-self : goal.invariant_of-self
+invariant_of-self c =
     let l = c.args.self.now in
-    let done = joins l.figures c.args.new c.args.order l.book c.enter.result c.enter.new.self c.enter.ensures l.unit l.fits c.requires.1 c.requires.3 in (
-      accepted_fits l.figures l.fit c.requires.2,
-      (
-        ap (list_all (order_fits (with_accepted l.figures))) done.0 ∙ joined_fit l.figures c.args.new c.args.order (orders_of l.book) l.fits c.requires.1,
-        (done.1 ∙ l.unit, tt),
-      ),
-    )
+    let done = joins l.figures c.args.new c.args.order l.book c.enter.result c.enter.new.self c.enter.ensures l.unit l.fits c.requires.1 c.requires.3 in
+    record {
+      fit = accepted_fits l.figures l.fit c.requires.2;
+      fits = ap (list_all (order_fits (with_accepted l.figures))) done.0 ∙ joined_fit l.figures c.args.new c.args.order (orders_of l.book) l.fits c.requires.1;
+      unit = done.1 ∙ l.unit;
+    }
 
 pub returns : goal.returns
 returns c =

@@ -7,16 +7,15 @@ use Rattle.rules.specs.States.{State, order_fits}
 use Rattle.day.proofs.Joining.{cancel_stays}
 use Rattle.day.proofs.live.Live.take_away.Goals as goal
 
-pub invariant-of-self : goal.invariant-of-self
-invariant-of-self c =
+pub invariant_of-self : goal.invariant_of-self
+invariant_of-self c =
     let l = c.args.self.now in
-    let left = c.settle.ensures.orders ∙ cancel_stays c.args.number (orders_of l.book) in (
-      l.fit,
-      (
-        ap (list_all (order_fits l.figures)) left ∙ pass_kept (order_fits l.figures) (λ o. not (eqb o.number c.args.number)) (orders_of l.book) l.fits,
-        (c.settle.ensures.unit ∙ l.unit, tt),
-      ),
-    )
+    let left = c.settle.ensures.orders ∙ cancel_stays c.args.number (orders_of l.book) in
+    record {
+      fit = l.fit;
+      fits = ap (list_all (order_fits l.figures)) left ∙ pass_kept (order_fits l.figures) (λ o. not (eqb o.number c.args.number)) (orders_of l.book) l.fits;
+      unit = c.settle.ensures.unit ∙ l.unit;
+    }
 
 pub returns : goal.returns
 returns c =

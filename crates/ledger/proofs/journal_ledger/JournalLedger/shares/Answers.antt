@@ -7,7 +7,7 @@ pub returns : goal.returns
 returns c =
     let j = c.args.self.now in
     let by =
-    shares_by j.start.now.shares _ (take j.used j.rows.now) c.shares-on-bought.result c.shares-on-sold.result
-    c.written-rows.ensures.value c.shares-on-bought.ensures.value c.shares-on-sold.ensures.value
+    shares_by j.start.now.shares _ (take j.used j.rows.now) c.shares_on-bought.result c.shares_on-sold.result
+    c.written-rows.ensures.value c.shares_on-bought.ensures.value c.shares_on-sold.ensures.value
     in
     omega (arith, ints, by)

@@ -5,20 +5,20 @@ use Rattle.ledger.specs.Bounds.{Within}
 use Rattle.ledger.proofs.Words.{sub_is, add_is, runs_on}
 use Rattle.ledger.proofs.totals.Totals.count_in.Goals as goal
 
-pub invariant-of-self : goal.invariant-of-self
-invariant-of-self c =
+pub invariant_of-self : goal.invariant_of-self
+invariant_of-self c =
     let few : c.args.quantity ≤ 99 = search rules in
-    let d : Within 99 c.by-side.result = (omega (arith, ints), omega (arith, ints)) in
-    let e : Within 19800000000 c.by-side-2.result = (omega (arith, ints), omega (arith, ints)) in
-    (runs_on _ _ _ _ _ c.args.self.now.ok c.requires.room d e, tt)
+    let d : Within 99 c.by_side.result = (omega (arith, ints), omega (arith, ints)) in
+    let e : Within 19800000000 c.by_side-2.result = (omega (arith, ints), omega (arith, ints)) in
+    record { ok = runs_on _ _ _ _ _ c.args.self.now.ok c.requires.room d e }
 
 pub returns : goal.returns
 returns c =
     let few : c.args.quantity ≤ 99 = search rules in
     record {
-      shares = sub_is _ _ _ (omega (arith, ints), omega (arith, ints)) (omega (arith, ints), omega (arith, ints)) c.by-side.ensures.value;
+      shares = sub_is _ _ _ (omega (arith, ints), omega (arith, ints)) (omega (arith, ints), omega (arith, ints)) c.by_side.ensures.value;
       money =
           add_is _ _ _ (omega (arith, ints), omega (arith, ints)) (omega (arith, ints), omega (arith, ints))
-          (c.by-side-2.ensures.value ∙ ap (λ n. signed c.args.side (pos n)) c.amount-paid.ensures.value);
+          (c.by_side-2.ensures.value ∙ ap (λ n. signed c.args.side (pos n)) c.amount-paid.ensures.value);
       places = omega arith;
     }

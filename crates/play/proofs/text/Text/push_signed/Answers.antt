@@ -5,9 +5,9 @@ use Rattle.play.proofs.text.Text.push_signed.Goals as goal
 
 pub returns-then-z-lt0 : goal.returns-then-z-lt0
 returns-then-z-lt0 c =
-    let n = c.unsigned-abs-n.result in
+    let n = c.unsigned_abs-n.result in
     let below : c.args.z <ℤ pos 0 = search rules in
-    let size : c.unsigned-abs-n.result ≡ nat_abs c.args.z = search rules in
+    let size : c.unsigned_abs-n.result ≡ nat_abs c.args.z = search rules in
     let is = signed_below c.args.z below ∙ ap (λ m. 45 ∷ decimal m) (sym size) in
     record {
       text = behind_minus (text_in c.args.self.now) (text_in c.push-byte.new.self) (text_in c.push-wide.new.self) _ n c.args.end c.push-wide.ensures.text c.push-byte.ensures.text is;
@@ -17,7 +17,7 @@ returns-then-z-lt0 c =
 pub returns-else-z-lt0 : goal.returns-else-z-lt0
 returns-else-z-lt0 c =
     let above : pos 0 ≤ℤ c.args.z = search rules in
-    let size : c.unsigned-abs-n.result ≡ nat_abs c.args.z = search rules in
+    let size : c.unsigned_abs-n.result ≡ nat_abs c.args.z = search rules in
     let is = signed_above c.args.z above ∙ ap decimal (sym size) in
     record {
       text = c.push-wide-else-z-lt0.ensures.text ∙ ap (λ l. text_in c.args.self.now ++ (l ++ (c.args.end ∷ []))) (sym is);
