@@ -11,7 +11,7 @@ returns-in-Ok g c =
     let m = g.L.Ledger in
     let d = c.args.self.now in
     let h = c.in-Ok.ensures in
-    quiet_accepted (Cancel c.args.number) (state_of d.live) (numbers m.shares m.money m.places d.ledger) c.in-Ok.order.shares (state_of c.take-away.new.self) refl h.0 (sym (ap shares_of h.1)) c.take-away.ensures
+    quiet_accepted (Cancel c.args.number) (state_of d.live) (numbers m.shares m.money m.places d.ledger) c.in-Ok.order.shares (state_of c.take_away.new.self) refl h.0 (sym (ap shares_of h.1)) c.take_away.ensures
 
 pub returns-in-Err : goal.returns-in-Err
 returns-in-Err g c =

@@ -9,4 +9,4 @@ pub returns-in-Some : goal.returns-in-Some
 returns-in-Some g c =
     let m = g.L.Ledger in
     let d = c.args.self.now in
-    step_early (Clock c.args.time) (state_of d.live) c.args.report.now (numbers m.shares m.money m.places d.ledger) c.in-Some.refusal (sym c.refuses-clock.ensures ∙ c.in-Some.is)
+    step_early (Clock c.args.time) (state_of d.live) c.args.report.now (numbers m.shares m.money m.places d.ledger) c.in-Some.refusal (sym c.refuses_clock.ensures ∙ c.in-Some.is)

@@ -17,9 +17,9 @@ pub carry-requires : goal.carry-requires
 carry-requires g c =
     let l = c.args.self.now.live in
     let q = quote_fits l.figures l.fit in
-    let pass = close_row c.is-open.result l.figures.quote in
+    let pass = close_row c.is_open.result l.figures.quote in
     record {
-      well = rows_well l.book.unit pass (close_well l.book.unit c.is-open.result l.figures.quote q.0 q.1) (orders_of l.book) l.book.lawful;
+      well = rows_well l.book.unit pass (close_well l.book.unit c.is_open.result l.figures.quote q.0 q.1) (orders_of l.book) l.book.lawful;
       fit = l.fit;
       fits = stays_fit l.figures (with_phase Closed l.figures) pass (orders_of l.book) (order_closed l.figures) l.fits;
       unit = refl;
@@ -32,8 +32,8 @@ returns g c =
     let d = c.args.self.now in
     let l = d.live in
     let book = orders_of l.book in
-    carried_step Close (state_of l) (close_row c.is-open.result l.figures.quote) (with_phase Closed l.figures) c.args.report.now (at d.ledger) c.carry.result (state_of c.carry.new.self.live) c.carry.new.report (at c.carry.new.self.ledger) c.requires
-    (ap (λ b. rows_by (close_row b l.figures.quote) book) c.is-open.ensures)
+    carried_step Close (state_of l) (close_row c.is_open.result l.figures.quote) (with_phase Closed l.figures) c.args.report.now (at d.ledger) c.carry.result (state_of c.carry.new.self.live) c.carry.new.report (at c.carry.new.self.ledger) c.requires
+    (ap (λ b. rows_by (close_row b l.figures.quote) book) c.is_open.ensures)
     refl
-    (ap (λ b. record { figures = with_phase Closed l.figures; book = stays_by (close_row b l.figures.quote) book }) c.is-open.ensures)
+    (ap (λ b. record { figures = with_phase Closed l.figures; book = stays_by (close_row b l.figures.quote) book }) c.is_open.ensures)
     c.carry.ensures

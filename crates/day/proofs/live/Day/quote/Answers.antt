@@ -9,10 +9,10 @@ pub returns-in-Some : goal.returns-in-Some
 returns-in-Some g c =
     let m = g.L.Ledger in
     let d = c.args.self.now in
-    quiet_refused (Quote (record { bid = c.args.bid; offer = c.args.offer })) (state_of d.live) (numbers m.shares m.money m.places d.ledger) c.in-Some.refusal refl (sym c.refuses-quote.ensures ∙ c.in-Some.is)
+    quiet_refused (Quote (record { bid = c.args.bid; offer = c.args.offer })) (state_of d.live) (numbers m.shares m.money m.places d.ledger) c.in-Some.refusal refl (sym c.refuses_quote.ensures ∙ c.in-Some.is)
 
 pub returns-in-None : goal.returns-in-None
 returns-in-None g c =
     let m = g.L.Ledger in
     let d = c.args.self.now in
-    quiet_accepted (Quote (record { bid = c.args.bid; offer = c.args.offer })) (state_of d.live) (numbers m.shares m.money m.places d.ledger) 0 (state_of c.set-quote.new.self) refl (sym c.refuses-quote.ensures ∙ c.in-None.is) refl c.set-quote.ensures
+    quiet_accepted (Quote (record { bid = c.args.bid; offer = c.args.offer })) (state_of d.live) (numbers m.shares m.money m.places d.ledger) 0 (state_of c.set_quote.new.self) refl (sym c.refuses_quote.ensures ∙ c.in-None.is) refl c.set_quote.ensures

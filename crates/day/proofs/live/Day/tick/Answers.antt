@@ -24,10 +24,10 @@ carry-requires g c =
     let known = clock_known l.figures t c.requires in
     record {
       well =
-          subst (λ (x : Quote). list_all is_posted_well (rows_by (timer_row t x) (orders_of l.book)) ≡ true) (sym c.timer-quote-quote.ensures)
+          subst (λ (x : Quote). list_all is_posted_well (rows_by (timer_row t x) (orders_of l.book)) ≡ true) (sym c.timer_quote-quote.ensures)
           (rows_well l.book.unit (timer_row t (timer_quote l.figures)) (timer_well l.book.unit t (timer_quote l.figures) tq.0 tq.1) (orders_of l.book) l.book.lawful);
       fit = time_fits l.figures t l.fit known.0;
-      fits = stays_fit l.figures (with_time t l.figures) (timer_row t c.timer-quote-quote.result) (orders_of l.book) (order_in_time l.figures t known.1) l.fits;
+      fits = stays_fit l.figures (with_time t l.figures) (timer_row t c.timer_quote-quote.result) (orders_of l.book) (order_in_time l.figures t known.1) l.fits;
       unit = refl;
     }
 
@@ -40,8 +40,8 @@ returns g c =
     let t = c.args.time in
     let book = orders_of l.book in
     let both = timer_rows (is_open l.figures.phase) t l.figures.quote book in
-    carried_step (Clock t) (state_of l) (timer_row t c.timer-quote-quote.result) (with_time t l.figures) c.args.report.now (at d.ledger) c.carry.result (state_of c.carry.new.self.live) c.carry.new.report (at c.carry.new.self.ledger) c.requires
-    (ap (λ (x : Quote). rows_by (timer_row t x) book) c.timer-quote-quote.ensures ∙ both.0)
+    carried_step (Clock t) (state_of l) (timer_row t c.timer_quote-quote.result) (with_time t l.figures) c.args.report.now (at d.ledger) c.carry.result (state_of c.carry.new.self.live) c.carry.new.report (at c.carry.new.self.ledger) c.requires
+    (ap (λ (x : Quote). rows_by (timer_row t x) book) c.timer_quote-quote.ensures ∙ both.0)
     refl
-    (ap (λ (x : Quote). record { figures = with_time t l.figures; book = stays_by (timer_row t x) book }) c.timer-quote-quote.ensures ∙ ap (λ (xs : List Order). record { figures = with_time t l.figures; book = xs }) both.1)
+    (ap (λ (x : Quote). record { figures = with_time t l.figures; book = stays_by (timer_row t x) book }) c.timer_quote-quote.ensures ∙ ap (λ (xs : List Order). record { figures = with_time t l.figures; book = xs }) both.1)
     c.carry.ensures

@@ -14,7 +14,7 @@ pub returns-in-Some : goal.returns-in-Some
 returns-in-Some g c =
     let m = g.L.Ledger in
     let d = c.args.self.now in
-    step_early (Trade (record { price = c.args.price; volume = c.args.volume })) (state_of d.live) c.args.report.now (numbers m.shares m.money m.places d.ledger) c.in-Some.refusal (sym c.refuses-trade.ensures ∙ c.in-Some.is)
+    step_early (Trade (record { price = c.args.price; volume = c.args.volume })) (state_of d.live) c.args.report.now (numbers m.shares m.money m.places d.ledger) c.in-Some.refusal (sym c.refuses_trade.ensures ∙ c.in-Some.is)
 
 pub returns-in-None : goal.returns-in-None
 returns-in-None g c =
@@ -24,5 +24,5 @@ returns-in-None g c =
     let new : NewSale = record { price = c.args.price; volume = c.args.volume } in
     let s = state_of d.live in
     let sale = round_lot d.live.figures false new in
-    sold_step (Trade new) sale s c.args.report.now (at d.ledger) c.sell.result (state_of c.sell.new.self.live) c.sell.new.report (at c.sell.new.self.ledger) (sym c.refuses-trade.ensures ∙ c.in-None.is) refl refl refl
-    (subst (λ (x : RoundLot). SoldOn x s c.args.report.now (at d.ledger) c.sell.result (state_of c.sell.new.self.live) c.sell.new.report (at c.sell.new.self.ledger)) c.round-lot.ensures c.sell.ensures)
+    sold_step (Trade new) sale s c.args.report.now (at d.ledger) c.sell.result (state_of c.sell.new.self.live) c.sell.new.report (at c.sell.new.self.ledger) (sym c.refuses_trade.ensures ∙ c.in-None.is) refl refl refl
+    (subst (λ (x : RoundLot). SoldOn x s c.args.report.now (at d.ledger) c.sell.result (state_of c.sell.new.self.live) c.sell.new.report (at c.sell.new.self.ledger)) c.round_lot.ensures c.sell.ensures)
