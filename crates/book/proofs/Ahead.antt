@@ -1,13 +1,11 @@
 -- In a book whose numbers rise, the shares ahead of a number lie at the front of the book.
-use Rattle.std.proofs.Common.{◌≡◌, ℕ, zero, suc, ◌+◌, ◌<◌, ◌≤◌, Bool, true, false, cond, ◌&&◌, ◌||◌, ltb, List, [], ◌∷◌, length, get_or, take, Some, None, sum_by, filter, Option, sym, refl, ap, ◌∙◌, subst, ⊎_elim, add-one, arith, take_all}
+use Rattle.std.proofs.Common.{◌≡◌, ℕ, zero, suc, ◌+◌, ◌<◌, ◌≤◌, Bool, true, false, cond, ltb, List, [], ◌∷◌, length, get_or, take, sum_by, filter, sym, refl, ap, ◌∙◌, ⊎_elim, add-one, arith, take_all}
 use Rattle.std.specs.List.{list_all}
 use Rattle.std.proofs.lemmas.List.Sums.{sum_by-cons, sum_by_more}
 use Rattle.std.proofs.lemmas.Bool.{and_parts, cases_lt, ltb-true, le-ltb, lt-ltb, cond-true, cond-false}
 use Rattle.market.proofs.Fronts.{sum_kept}
-use Rattle.market.specs.Sums.{shares_on, sum_on}
-use Rattle.market.specs.Terms.{market_side}
+use Rattle.market.specs.Sums.{shares_on}
 use Rattle.market.specs.declared.side.MarketSide.{MarketSide}
-use Rattle.market.specs.declared.side.MarketSide.TheVariants.{Buying, Selling}
 use Rattle.book.specs.Orders.{no_order, rises}
 use Rattle.book.specs.Sales.{ahead, eligible}
 use Rattle.book.specs.declared.order.Order.{Order}

@@ -1,12 +1,12 @@
 -- Orders of rising number, taken from the front until a number of shares is reached.
-use Rattle.std.proofs.Common.{◌≡◌, ℕ, suc, ◌+◌, ◌-◌, ◌<◌, ◌≤◌, Bool, true, false, cond, ltb, List, [], ◌∷◌, length, take, sum_by, filter, sym, refl, ap, ◌∙◌, ⊎_elim, add-zero, add_assoc, arith}
+use Rattle.std.proofs.Common.{◌≡◌, ℕ, suc, ◌+◌, ◌-◌, ◌<◌, ◌≤◌, Bool, true, false, cond, ltb, List, [], ◌∷◌, length, take, filter, sym, refl, ap, ◌∙◌, ⊎_elim, add-zero, add_assoc, arith}
 use Rattle.std.specs.List.{list_all}
 use Rattle.std.proofs.lemmas.List.Sums.{sum_by-cons}
-use Rattle.std.proofs.lemmas.Bool.{and_parts, cases_lt, ltb-true, le-ltb, lt-ltb, cond-true, cond-false}
+use Rattle.std.proofs.lemmas.Bool.{and_parts, cases_lt, le-ltb, lt-ltb, cond-true, cond-false}
 use Rattle.book.specs.Law.{but_last, shares_in}
 use Rattle.book.specs.Orders.{rises}
 use Rattle.book.specs.declared.order.Order.{Order}
-use Rattle.book.proofs.Ahead.{none_below, part_le}
+use Rattle.book.proofs.Ahead.{none_below}
 
 -- two tests that agree on what passes a third
 pub kept_agree : {X : Type 0} (h p q : X → Bool) (xs : List X) → list_all h xs ≡ true → ((x : X) → h x ≡ true → p x ≡ q x) → filter p xs ≡ filter q xs

@@ -1,5 +1,5 @@
 -- The law of trades.
-use Rattle.std.proofs.Common.{◌≡◌, ℕ, ◌+◌, ◌<◌, ◌≤◌, Bool, true, false, cond, ◌&&◌, ◌||◌, ltb, List, [], ◌∷◌, length, take, sum_by, filter, sym, refl, ap, ◌∙◌, subst, zero-add, arith}
+use Rattle.std.proofs.Common.{◌≡◌, ℕ, ◌+◌, ◌<◌, Bool, true, false, cond, ◌&&◌, ◌||◌, ltb, List, [], ◌∷◌, length, take, sum_by, filter, sym, refl, ap, ◌∙◌, zero-add, arith}
 use Rattle.std.proofs.lemmas.List.Sums.{sum_by-cons}
 use Rattle.market.proofs.Fronts.{sum_kept}
 use Rattle.market.specs.Sums.{shares_on}
@@ -8,7 +8,7 @@ use Rattle.market.specs.declared.side.MarketSide.{MarketSide}
 use Rattle.market.specs.declared.side.MarketSide.TheVariants.{Buying, Selling}
 use Rattle.market.specs.declared.side.Side.{Side}
 use Rattle.market.specs.declared.side.Side.TheVariants.{Buy, SellLong, SellShort}
-use Rattle.book.specs.Law.{Priority, TradeLaw, but_last, eligible_on, filled_on, on, same_side, shares_in}
+use Rattle.book.specs.Law.{TradeLaw, but_last, eligible_on, filled_on, on, same_side, shares_in}
 use Rattle.book.specs.Orders.{rises}
 use Rattle.book.specs.Sales.{ahead, eligible, filled, is_market, matched, reach}
 use Rattle.book.specs.declared.order.Order.{Order}

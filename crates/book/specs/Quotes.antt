@@ -1,5 +1,5 @@
 -- Fills at the quote: the timer, Rule 124(b)(iv), and the close, Rule 124(b)(vi).
-use Rattle.std.specs.Prelude.{ℕ, ◌+◌, Bool, true, false, cond, not, ◌&&◌, Some, None, Option, nat_lt}
+use Rattle.std.specs.Prelude.{ℕ, ◌+◌, Bool, cond, not, ◌&&◌, Some, None, Option, nat_lt}
 use Rattle.market.specs.declared.mark.Mark.{Mark}
 use Rattle.market.specs.declared.mark.Mark.TheVariants.{Offer, Bid, Lapse}
 use Rattle.market.specs.declared.side.Side.{Side}

@@ -1,5 +1,5 @@
 -- A call's promise, from the pass that it carried out.
-use Rattle.std.proofs.Common.{◌≡◌, ℕ, Bool, true, false, not, List, [], ◌∷◌, ◌++◌, map, length, drop, is_some, Some, None, Ok, Err, Option, Result, sym, refl, ap, ◌∙◌, subst}
+use Rattle.std.proofs.Common.{◌≡◌, ℕ, true, not, List, ◌++◌, map, length, drop, is_some, None, Ok, Err, Option, Result, sym, ap, ◌∙◌, subst}
 use Rattle.std.specs.List.{list_all}
 use Rattle.market.specs.declared.refusal.Refusal.{Refusal}
 use Rattle.ledger.specs.Posting.{Numbers}

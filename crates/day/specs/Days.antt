@@ -1,5 +1,5 @@
 -- The state of a day, and its making.
-use Rattle.std.specs.Prelude.{◌≡◌, ℕ, Bool, true, false, ◌&&◌, List, [], None, Ok, Err, Result}
+use Rattle.std.specs.Prelude.{◌≡◌, ℕ, Bool, true, false, ◌&&◌, [], None, Ok, Err, Result}
 use Rattle.market.specs.Limits.{is_price, is_tag, is_unit}
 use Rattle.market.specs.declared.refusal.Refusal.{Refusal}
 use Rattle.market.specs.declared.refusal.Refusal.TheVariants.{BadField}
@@ -7,7 +7,7 @@ use Rattle.book.specs.Books.{orders_of}
 use Rattle.rules.specs.Machine.{with_phase}
 use Rattle.rules.specs.States.{State}
 use Rattle.rules.specs.declared.figures.Figures.{Figures}
-use Rattle.rules.specs.declared.figures.Phase.TheVariants.{Unopened, Open, Closed}
+use Rattle.rules.specs.declared.figures.Phase.TheVariants.{Unopened, Closed}
 use Rattle.day.specs.declared.live.Live.{Live}
 
 abbrev pub state_of : Live → State

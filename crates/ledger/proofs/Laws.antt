@@ -1,17 +1,16 @@
 -- The law of postings: for one, and for one more.
-use Rattle.std.proofs.Common.{◌≡◌, ℕ, ◌+◌, ◌-◌, ◌*◌, ◌<◌, ◌≤◌, Bool, true, false, cond, eqb, ◌≢◌, ◌⊎◌, List, [], ◌∷◌, ◌++◌, length, get_or, take, set, ℤ, pos, ◌+ℤ◌, ◌-ℤ◌, Some, None, Ok, Err, count_by, filter, Option, Result, sym, refl, ap, ◌∙◌, subst, inl, inr, arith, length-append, take_all, get_or-set_other, get_or-set_same, below_more}
+use Rattle.std.proofs.Common.{◌≡◌, ℕ, ◌+◌, ◌-◌, ◌*◌, ◌<◌, ◌≤◌, Bool, true, false, cond, eqb, ◌≢◌, ◌⊎◌, List, [], ◌∷◌, ◌++◌, length, get_or, take, set, ℤ, pos, ◌+ℤ◌, ◌-ℤ◌, Some, None, count_by, filter, Option, Result, sym, refl, ap, ◌∙◌, subst, inl, inr, arith, length-append, take_all, get_or-set_other, get_or-set_same, below_more}
 use Rattle.std.proofs.lemmas.List.Elements.{filter-append}
 use Rattle.std.proofs.lemmas.List.Sums.{sum_by-append, sum_by_more}
 use Rattle.std.proofs.lemmas.List.{take_more_set}
 use Rattle.std.proofs.lemmas.Int.{ints}
 use Rattle.std.proofs.lemmas.Bool.{cond-true, cond-false, ne_eqb}
 use Rattle.std.proofs.lemmas.Bool.Decides.{nat_tests, eqb_tells}
-use Rattle.market.specs.Sums.{shares_on, sum_on}
+use Rattle.market.specs.Sums.{shares_on}
 use Rattle.market.specs.declared.refusal.Refusal.{Refusal}
 use Rattle.market.specs.declared.refusal.Refusal.TheVariants.{BadField, LedgerFull}
 use Rattle.market.specs.declared.side.Side.{Side}
 use Rattle.market.specs.declared.side.Side.TheVariants.{Buy, SellLong, SellShort}
-use Rattle.market.specs.declared.side.MarketSide.{MarketSide}
 use Rattle.market.specs.declared.side.MarketSide.TheVariants.{Buying, Selling}
 use Rattle.ledger.specs.Posting.{Numbers, Agree, Posted, answer_of, in_field, moved, refusal_of, settled_by, signed}
 use Rattle.ledger.specs.Law.{AddsUp, MovedBy, fits, judged, no_posting, outcome_of, accepted}

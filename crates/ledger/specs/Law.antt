@@ -1,5 +1,5 @@
 -- What any list of postings does to any ledger.
-use Rattle.std.specs.Prelude.{◌≡◌, ℕ, ◌+◌, ◌-◌, ◌*◌, ◌<◌, Bool, true, false, List, length, take, ℤ, pos, ◌+ℤ◌, ◌-ℤ◌, Ok, Err, count_by, filter, Result, slice_index_or}
+use Rattle.std.specs.Prelude.{◌≡◌, ℕ, ◌+◌, ◌-◌, ◌*◌, ◌<◌, Bool, true, false, List, length, take, pos, ◌+ℤ◌, ◌-ℤ◌, Ok, Err, count_by, filter, Result, slice_index_or}
 use Rattle.market.specs.Sums.{sum_on}
 use Rattle.market.specs.declared.refusal.Refusal.{Refusal}
 use Rattle.market.specs.declared.side.Side.{Side}

@@ -4,7 +4,7 @@ use Rattle.std.proofs.Common.{arith}
 use Rattle.std.proofs.lemmas.Int.{ints}
 use Rattle.market.specs.declared.refusal.Refusal.{Refusal}
 use Rattle.market.specs.declared.refusal.Refusal.TheVariants.{BadField}
-use Rattle.ledger.specs.Bounds.{MayStart, Within, Bounded, Runs}
+use Rattle.ledger.specs.Bounds.{MayStart, Bounded, Runs}
 use Rattle.ledger.specs.Posting.{Numbers}
 use Rattle.ledger.specs.declared.start.Start.{Start}
 use Rattle.ledger.specs.declared.totals.Totals.{Totals}

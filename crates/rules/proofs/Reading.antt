@@ -1,5 +1,5 @@
 -- Numbers read back as terms.
-use Rattle.std.proofs.Common.{◌≡◌, ℕ, eqb, List, [], ◌∷◌, Some, None, Option, sym, refl, ◌∙◌, subst}
+use Rattle.std.proofs.Common.{◌≡◌, ℕ, List, [], ◌∷◌, Some, None, Option, sym, refl, ◌∙◌, subst}
 use Rattle.std.proofs.lemmas.Bool.{cond-false, ne_eqb}
 use Rattle.market.specs.Terms.{Reads, kind_number, side_number}
 use Rattle.market.specs.declared.kind.Kind.{Kind}

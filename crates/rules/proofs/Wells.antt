@@ -1,5 +1,5 @@
 -- The rows of sales, the timer and the close can be posted, and the orders that they leave fit the day after them.
-use Rattle.std.proofs.Common.{◌≡◌, ℕ, ◌+◌, ◌<◌, ◌≤◌, Bool, true, false, cond, not, ◌&&◌, ◌||◌, ltb, leb, List, [], ◌∷◌, map, is_some, Some, None, Option, sym, refl, ap, ◌∙◌, subst, arith}
+use Rattle.std.proofs.Common.{◌≡◌, ℕ, ◌+◌, ◌≤◌, Bool, true, false, cond, not, ◌&&◌, ◌||◌, ltb, leb, List, [], ◌∷◌, map, is_some, Some, None, Option, refl, ap, ◌∙◌, arith}
 use Rattle.std.specs.List.{list_all}
 use Rattle.std.proofs.lemmas.Bool.{and_parts, and_from, ltb-false}
 use Rattle.std.proofs.lemmas.Bool.Decides.{nat_tests}
@@ -26,9 +26,8 @@ use Rattle.rules.specs.Machine.{after_round_lot, clock_refusal, is_fill, is_post
 use Rattle.rules.specs.States.{figures_fit, is_closed, is_open, is_price_or_none, is_unopened, not_short, order_fits}
 use Rattle.rules.specs.declared.call.NewSale.{NewSale}
 use Rattle.rules.specs.declared.figures.Figures.{Figures}
-use Rattle.rules.specs.declared.figures.Phase.{Phase}
 use Rattle.rules.specs.declared.figures.Phase.TheVariants.{Closed}
-use Rattle.rules.proofs.Fitting.{lawful_postable, pass_weaker, row_well}
+use Rattle.rules.proofs.Fitting.{lawful_postable, row_well}
 
 or_true : (b f : Bool) → f ≡ true → b || f ≡ true
 or_true true f h = refl

@@ -1,6 +1,6 @@
 -- Worked examples of the rules, one table: each row is computed from the very definitions that the calls promise.
 -- Unless said otherwise: an open day, unit 100, latest price 200,000 and not rising.
-use Rattle.std.specs.Prelude.{◌≡◌, ℕ, Bool, true, false, List, [], ◌∷◌, Some, None, Option}
+use Rattle.std.specs.Prelude.{◌≡◌, ℕ, Bool, true, false, [], ◌∷◌, Some, None}
 use Rattle.market.specs.declared.kind.Kind.{Kind}
 use Rattle.market.specs.declared.kind.Kind.TheVariants.{Market, Limit, Stop}
 use Rattle.market.specs.declared.mark.Mark.{Mark}
@@ -14,7 +14,6 @@ use Rattle.book.specs.declared.order.Order.{Order}
 use Rattle.book.specs.declared.row.Row.{Row}
 use Rattle.book.specs.declared.quote.Quote.{Quote}
 use Rattle.book.specs.declared.sale.RoundLot.{RoundLot}
-use Rattle.market.specs.declared.refusal.Refusal.{Refusal}
 use Rattle.market.specs.declared.refusal.Refusal.TheVariants.{BadField}
 use Rattle.rules.specs.Machine.{refusal_of, reply_of}
 use Rattle.rules.specs.States.{State}

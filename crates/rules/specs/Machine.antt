@@ -1,5 +1,5 @@
 -- The state machine of a day: for each call why it is refused, its rows, its answer and the state after it.
-use Rattle.std.specs.Prelude.{◌≡◌, ℕ, ◌+◌, Bool, true, false, cond, not, ◌&&◌, ◌||◌, List, [], ◌∷◌, ◌++◌, length, is_some, Some, None, filter, Option, ◌==◌, nat_lt}
+use Rattle.std.specs.Prelude.{ℕ, ◌+◌, Bool, true, false, cond, not, ◌&&◌, ◌||◌, List, [], ◌∷◌, ◌++◌, length, Some, None, filter, Option, ◌==◌, nat_lt}
 use Rattle.market.specs.Limits.{has_accepted_room, has_live_room, is_price, is_time, is_volume}
 use Rattle.market.specs.Terms.{kind_number, side_number}
 use Rattle.market.specs.declared.kind.Kind.{Kind}
@@ -27,7 +27,7 @@ use Rattle.rules.specs.declared.call.NewQuote.{NewQuote}
 use Rattle.rules.specs.declared.call.NewSale.{NewSale}
 use Rattle.rules.specs.declared.figures.Figures.{Figures}
 use Rattle.rules.specs.declared.figures.Phase.{Phase}
-use Rattle.rules.specs.declared.figures.Phase.TheVariants.{Unopened, Open, Closed}
+use Rattle.rules.specs.declared.figures.Phase.TheVariants.{Open, Closed}
 
 -- the term of a list that has this number, if any
 abbrev pub with_number : {X : Type 0} → (X → ℕ) → List X → ℕ → Option X

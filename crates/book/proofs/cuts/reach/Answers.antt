@@ -1,4 +1,4 @@
-use Rattle.std.proofs.Common.{◌≡◌, ◌+◌, min, ap, ◌∙◌, arith}
+use Rattle.std.proofs.Common.{◌≡◌, ap, ◌∙◌, arith}
 use Rattle.market.proofs.Fronts.{counted_all}
 use Rattle.market.specs.declared.side.MarketSide.TheVariants.{Buying, Selling}
 use Rattle.book.specs.Sales.{eligible_shares, matched, reach}

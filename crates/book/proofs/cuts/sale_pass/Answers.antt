@@ -1,4 +1,4 @@
-use Rattle.std.proofs.Common.{◌≡◌, ℕ, cond, ◌&&◌, ◌||◌, ltb, List, Some, None, Option, sym, refl, ap, ◌∙◌, subst}
+use Rattle.std.proofs.Common.{◌≡◌, ℕ, cond, ◌&&◌, ◌||◌, ltb, List, Some, None, Option, sym, refl, ap, subst}
 use Rattle.market.specs.Terms.{market_side}
 use Rattle.market.specs.declared.side.MarketSide.{MarketSide}
 use Rattle.market.specs.declared.side.MarketSide.TheVariants.{Buying, Selling}

@@ -1,4 +1,4 @@
-use Rattle.std.proofs.Common.{◌≡◌, length, sym, ap, ◌∙◌, arith, take_all}
+use Rattle.std.proofs.Common.{length, sym, ap, ◌∙◌, arith, take_all}
 use Rattle.book.specs.Passes.{rows_by}
 use Rattle.book.proofs.Rows.{count_more, one_row, no_rows}
 use Rattle.book.proofs.settle.count.Goals as goal

@@ -1,4 +1,4 @@
-use Rattle.std.proofs.Common.{◌≡◌, ◌<◌, not, length, is_some, vec_items, sym, ap, ◌∙◌, rules}
+use Rattle.std.proofs.Common.{◌<◌, not, length, is_some, vec_items, sym, ap, ◌∙◌, rules}
 use Rattle.std.proofs.lemmas.List.Filters.{FiltersInPlace-all, FiltersInPlace-more_no, FiltersInPlace-more_set}
 use Rattle.book.proofs.settle.keep.Goals as goal
 use Rattle.book.proofs.settle.keep.Goals.{then-is_none, else-is_none}

@@ -1,4 +1,4 @@
-use Rattle.std.proofs.Common.{◌≡◌, sym, ◌∙◌}
+use Rattle.std.proofs.Common.{sym}
 use Rattle.ledger.specs.Posting.{numbers}
 use Rattle.day.proofs.Postings.{fill_posted}
 use Rattle.day.proofs.posting.post_row.Goals as goal

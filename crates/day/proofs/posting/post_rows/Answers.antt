@@ -1,4 +1,4 @@
-use Rattle.std.proofs.Common.{◌≡◌, List, get_or, ap, ◌∙◌, subst, arith, take_all}
+use Rattle.std.proofs.Common.{List, subst, take_all}
 use Rattle.ledger.specs.Posting.{numbers}
 use Rattle.book.specs.Orders.{no_row}
 use Rattle.book.specs.declared.row.Row.{Row}

@@ -1,4 +1,4 @@
-use Rattle.std.proofs.Common.{◌≡◌, true, false, cond, length, sym, ap, ◌∙◌, arith, take_all}
+use Rattle.std.proofs.Common.{true, false, length, ap, ◌∙◌, arith, take_all}
 use Rattle.book.specs.Passes.{rows_by}
 use Rattle.rules.specs.Machine.{fills_of}
 use Rattle.day.proofs.Postings.{filled_more}

@@ -1,4 +1,4 @@
-use Rattle.std.proofs.Common.{◌≡◌, ℕ, cond, sum_by, sym, ap, ◌∙◌, arith, length-take}
+use Rattle.std.proofs.Common.{ℕ, cond, sum_by, sym, ap, ◌∙◌, arith, length-take}
 use Rattle.market.specs.Sums.{shares_on, counted}
 use Rattle.market.proofs.Fronts.{sum_more, sum_kept, all_counted}
 use Rattle.market.proofs.sided.shares_where.Goals as goal

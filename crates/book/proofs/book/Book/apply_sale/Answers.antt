@@ -1,10 +1,9 @@
-use Rattle.std.proofs.Common.{◌≡◌, ℕ, List, map, Ok, Err, Option, Result, sym, ap, ◌∙◌, subst}
+use Rattle.std.proofs.Common.{◌≡◌, ℕ, List, map, Ok, Err, Option, ap, ◌∙◌, subst}
 use Rattle.std.proofs.lemmas.Result.{err_from_is_err_and}
 use Rattle.market.specs.declared.refusal.Refusal.{Refusal}
 use Rattle.book.specs.Books.{Applied, Reported, Sold, orders_of}
 use Rattle.book.specs.Cuts.{cut_row}
-use Rattle.book.specs.Passes.{rows_by, stays_by}
-use Rattle.book.specs.Sales.{after_sale, elect, sale_row}
+use Rattle.book.specs.Sales.{elect, sale_row}
 use Rattle.book.specs.declared.book.Book.{Book}
 use Rattle.book.specs.declared.order.Order.{Order}
 use Rattle.book.specs.declared.row.Row.{Row}

@@ -1,4 +1,4 @@
-use Rattle.std.proofs.Common.{◌≡◌, Bool, true, not, List, length, is_some, vec_items, sym, ap, subst, arith, rules}
+use Rattle.std.proofs.Common.{◌≡◌, Bool, true, not, List, length, is_some, vec_items, sym, ap, subst, arith}
 use Rattle.std.specs.List.{list_all}
 use Rattle.book.specs.Orders.{lawful, rises}
 use Rattle.book.specs.declared.order.Order.{Order}

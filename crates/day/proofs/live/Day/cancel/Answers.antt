@@ -1,4 +1,4 @@
-use Rattle.std.proofs.Common.{◌≡◌, sym, refl, ap, ◌∙◌}
+use Rattle.std.proofs.Common.{sym, refl, ap}
 use Rattle.ledger.specs.Posting.{numbers}
 use Rattle.rules.proofs.Stepping.{quiet_accepted, quiet_refused}
 use Rattle.rules.specs.Machine.{shares_of}

@@ -1,4 +1,4 @@
-use Rattle.std.proofs.Common.{◌≡◌, ap, ◌∙◌}
+use Rattle.std.proofs.Common.{◌∙◌}
 use Rattle.ledger.specs.Posting.{numbers}
 use Rattle.rules.specs.States.{order_fits}
 use Rattle.day.proofs.Joining.{settled_fit}

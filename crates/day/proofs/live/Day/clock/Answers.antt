@@ -1,4 +1,4 @@
-use Rattle.std.proofs.Common.{◌≡◌, sym, ◌∙◌}
+use Rattle.std.proofs.Common.{sym, ◌∙◌}
 use Rattle.ledger.specs.Posting.{numbers}
 use Rattle.rules.proofs.Stepping.{step_early}
 use Rattle.rules.specs.declared.call.Call.TheVariants.{Clock}

@@ -1,10 +1,9 @@
-use Rattle.std.proofs.Common.{◌≡◌, sym, refl, ap, ◌∙◌}
+use Rattle.std.proofs.Common.{refl, ap}
 use Rattle.ledger.specs.Posting.{numbers}
 use Rattle.book.specs.Books.{orders_of}
 use Rattle.book.specs.Passes.{rows_by, stays_by}
 use Rattle.book.specs.Quotes.{close_row}
 use Rattle.rules.specs.Machine.{with_phase}
-use Rattle.rules.specs.States.{State}
 use Rattle.rules.specs.declared.call.Call.TheVariants.{Close}
 use Rattle.rules.specs.declared.figures.Phase.TheVariants.{Closed}
 use Rattle.rules.proofs.Fitting.{rows_well}

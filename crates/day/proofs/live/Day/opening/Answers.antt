@@ -1,4 +1,4 @@
-use Rattle.std.proofs.Common.{◌≡◌, true, sym, refl, ap, ◌∙◌, subst}
+use Rattle.std.proofs.Common.{true, sym, refl, ◌∙◌, subst}
 use Rattle.ledger.specs.Posting.{numbers}
 use Rattle.book.specs.declared.sale.RoundLot.{RoundLot}
 use Rattle.rules.specs.Machine.{round_lot}

@@ -1,4 +1,4 @@
-use Rattle.std.proofs.Common.{◌≡◌, sym, refl, ◌∙◌}
+use Rattle.std.proofs.Common.{refl}
 use Rattle.ledger.specs.Posting.{numbers}
 use Rattle.rules.proofs.Fitting.{fresh}
 use Rattle.rules.proofs.Stepping.{quiet_accepted, quiet_refused}

@@ -1,4 +1,4 @@
-use Rattle.std.proofs.Common.{◌≡◌, true, cond, List, sym, refl, ap, ◌∙◌, subst}
+use Rattle.std.proofs.Common.{◌≡◌, true, List, sym, refl, ap, ◌∙◌, subst}
 use Rattle.std.specs.List.{list_all}
 use Rattle.ledger.specs.Posting.{numbers}
 use Rattle.book.specs.Books.{orders_of}
@@ -7,7 +7,7 @@ use Rattle.book.specs.Quotes.{timer_row}
 use Rattle.book.specs.declared.order.Order.{Order}
 use Rattle.book.specs.declared.quote.Quote.{Quote}
 use Rattle.rules.specs.Machine.{is_posted_well, timer_quote, with_time}
-use Rattle.rules.specs.States.{State, is_open}
+use Rattle.rules.specs.States.{is_open}
 use Rattle.rules.specs.declared.call.Call.TheVariants.{Clock}
 use Rattle.rules.proofs.Fitting.{rows_well}
 use Rattle.rules.proofs.Wells.{clock_known, order_in_time, quote_fits, time_fits, timer_quote_fits, timer_rows, timer_well}

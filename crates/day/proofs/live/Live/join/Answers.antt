@@ -1,9 +1,9 @@
-use Rattle.std.proofs.Common.{◌≡◌, List, sym, ap, ◌∙◌}
+use Rattle.std.proofs.Common.{List, sym, ap, ◌∙◌}
 use Rattle.std.specs.List.{list_all}
 use Rattle.book.specs.Books.{orders_of}
 use Rattle.book.specs.declared.order.Order.{Order}
 use Rattle.rules.specs.Machine.{joined, with_accepted}
-use Rattle.rules.specs.States.{State, order_fits}
+use Rattle.rules.specs.States.{order_fits}
 use Rattle.rules.proofs.Fitting.{accepted_fits}
 use Rattle.day.proofs.Joining.{joined_fit, joins}
 use Rattle.day.proofs.live.Live.join.Goals as goal

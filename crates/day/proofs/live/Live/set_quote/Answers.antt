@@ -1,5 +1,4 @@
-use Rattle.std.proofs.Common.{◌≡◌, ℕ, true, Option, sym, ap, ◌∙◌, subst}
-use Rattle.book.specs.declared.quote.Quote.{Quote}
+use Rattle.std.proofs.Common.{ap, ◌∙◌}
 use Rattle.rules.specs.Machine.{price_or_none, with_quote}
 use Rattle.rules.specs.States.{figures_fit}
 use Rattle.rules.proofs.Fitting.{fits_quote}

@@ -1,9 +1,9 @@
-use Rattle.std.proofs.Common.{◌≡◌, not, eqb, List, sym, ap, ◌∙◌}
+use Rattle.std.proofs.Common.{not, eqb, List, ap, ◌∙◌}
 use Rattle.std.specs.List.{list_all}
 use Rattle.book.specs.Books.{orders_of}
 use Rattle.book.specs.declared.order.Order.{Order}
 use Rattle.book.proofs.Books.{pass_kept}
-use Rattle.rules.specs.States.{State, order_fits}
+use Rattle.rules.specs.States.{order_fits}
 use Rattle.day.proofs.Joining.{cancel_stays}
 use Rattle.day.proofs.live.Live.take_away.Goals as goal
 

@@ -1,4 +1,4 @@
-use Rattle.std.proofs.Common.{◌≡◌, ◌<◌, min, length, refl, arith, length-set, rules}
+use Rattle.std.proofs.Common.{◌<◌, min, length, refl, length-set, rules}
 use Rattle.ledger.proofs.Added.{shares_more, money_more, place_used}
 use Rattle.ledger.proofs.journal.Journal.write_next.Goals as goal
 

@@ -1,4 +1,4 @@
-use Rattle.std.proofs.Common.{◌≡◌, min, length, take, sym, ap, ◌∙◌, arith}
+use Rattle.std.proofs.Common.{◌≡◌, min, length, take, ap, arith}
 use Rattle.ledger.proofs.Added.{front_written, counted_few}
 use Rattle.ledger.proofs.journal.Journal.written.Goals as goal
 
