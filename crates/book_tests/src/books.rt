@@ -5,6 +5,7 @@ use book::row::Row;
 use market::kind::Kind;
 use market::refusal::Refusal;
 use market::side::Side;
+use std::test::Fail;
 
 // Lawful orders for a unit of 100, at both ends of each range.
 #[test]

@@ -6,7 +6,6 @@ use market::kind::Kind;
 use market::mark::Mark;
 use market::side::Side;
 use std::process::Abort;
-use std::test::Fail;
 
 // An order that came at time 0.
 pub(crate) fn order(

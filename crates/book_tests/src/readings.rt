@@ -11,6 +11,7 @@ use market::mark::Mark;
 use market::side::Side;
 use std::alloc::Global;
 use std::process::Abort;
+use std::test::Fail;
 
 // The rows of one sale over these orders, in a report of 512 places, and their count.
 fn sale_over(

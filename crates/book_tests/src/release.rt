@@ -8,6 +8,7 @@ use market::mark::Mark;
 use market::side::{MarketSide, Side};
 use market::sided::shares_on;
 use std::process::Abort;
+use std::test::Fail;
 
 // 100 buys of 60 shares, 6,000 in all, and then 80 sells of 50, 4,000 in all.
 fn enter_market_orders(rt: &impl Abort, book: &mut Book) {
