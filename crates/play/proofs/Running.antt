@@ -61,12 +61,12 @@ advanced_refused c k s report n e t reported m out after p q long done wrote r w
     subst (λ (x : Option Refusal). At (answered r c x) was t m after q) (sym o) known
 
 -- a refused making
-pub refused_day : (unit prior tag : ℕ) (e : Refusal) (i : Instruction) (s : State) (n : Numbers) (was out : List ℕ) (q : Printed) → i ≡ make unit prior tag → Made unit prior tag (Err e) s → n ≡ unmade.ledger → Wrote (Refused 1 e ∷ []) was (record { used = 0; full = false }) out q → At (followed unmade i) was s n out q
-refused_day unit prior tag e i s n was out q is made ledger wrote =
+pub refused_day : (unit prior tag : ℕ) (e : Refusal) (i : Instruction) (s : State) (n : Numbers) (was out : List ℕ) (q : Printed) → i ≡ make unit prior tag → Made unit prior tag (Err e) s → s.figures ≡ refused_figures → n ≡ unmade.ledger → Wrote (Refused 1 e ∷ []) was (record { used = 0; full = false }) out q → At (followed unmade i) was s n out q
+refused_day unit prior tag e i s n was out q is made closed ledger wrote =
     let known : At (making unmade unit prior tag) was s n out q =
     record {
       day =
-          ap (λ (f : Figures). record { figures = f; book = s.book }) (made.2 ∙ sym (ap (λ b. cond b (fresh_figures unit prior tag) refused_figures) made.0))
+          ap (λ (f : Figures). record { figures = f; book = s.book }) (closed ∙ sym (ap (λ b. cond b (fresh_figures unit prior tag) refused_figures) made.0))
           ∙ ap (λ (b : List Order). record { figures = cond (may_make unit prior tag) (fresh_figures unit prior tag) refused_figures; book = b }) made.3;
       ledger = ledger;
       page =

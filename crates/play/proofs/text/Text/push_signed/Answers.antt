@@ -10,7 +10,7 @@ returns-then-z-lt0 c =
     let size : c.unsigned_abs-n.result ≡ nat_abs c.args.z = search rules in
     let is = signed_below c.args.z below ∙ ap (λ m. 45 ∷ decimal m) (sym size) in
     record {
-      text = behind_minus (text_in c.args.self.now) (text_in c.push-byte.new.self) (text_in c.push-wide.new.self) _ n c.args.end c.push-wide.ensures.text c.push-byte.ensures.text is;
+      text = behind_minus (text_in c.args.self.now) (text_in c.push_byte.new.self) (text_in c.push_wide.new.self) _ n c.args.end c.push_wide.ensures.text c.push_byte.ensures.text is;
       len = omega arith;
     }
 
@@ -20,6 +20,6 @@ returns-else-z-lt0 c =
     let size : c.unsigned_abs-n.result ≡ nat_abs c.args.z = search rules in
     let is = signed_above c.args.z above ∙ ap decimal (sym size) in
     record {
-      text = c.push-wide-else-z-lt0.ensures.text ∙ ap (λ l. text_in c.args.self.now ++ (l ++ (c.args.end ∷ []))) (sym is);
+      text = c.push_wide-else-z-lt0.ensures.text ∙ ap (λ l. text_in c.args.self.now ++ (l ++ (c.args.end ∷ []))) (sym is);
       len = omega arith;
     }
