@@ -58,10 +58,9 @@ fn play_too_long(out: &mut [u8]) -> u64
     finish(out, NOTHING, Line::Fault(fault), fault.reason.number())
 }
 
-// Play, for a host in C: a pointer and a length for the file's bytes, and the same for the output's. It reserves the book;
-// where there is no memory for it, the answer is 31 and nothing is written.
-#[unsafe(no_mangle)]
-pub extern "C" fn odd_lot_play(heap: Global, file: &[u8], out: &mut [u8]) -> u64
+// Play in a book of its own, as a host in C calls it (crate `play_c` exports it). It reserves the book; where there is no
+// memory for it, the answer is 31 and nothing is written.
+pub fn odd_lot_play(heap: Global, file: &[u8], out: &mut [u8]) -> u64
     ensures { PlayedOrNoMemory file.now out.old out.new result }
 {
     if file.len() > 65_536 {
