@@ -1,8 +1,8 @@
 /* The odd-lot day for hosts in C: one trading day of one stock under NYSE Rule 124, played from a day file.
  *
- * Link with two archives, in this order: the library's, which `rt staticlib play` makes, and the kit's helpers in C:
- *     kit=$(dirname "$(dirname "$(rt doc)")")
- *     gcc -Ic yours.c target/staticlib/libplay.a "$kit/lib/librattle_c.a"
+ * Link with two archives, in this order: the library's, target/staticlib/libplay.a, and the kit's helpers in C.
+ * tests/archive makes the first where needed, and prints both:
+ *     gcc -Ic yours.c $(tests/archive)
  * c/host.c is an example. Day files, printed lines and faults are described in docs/DAY-FILES.md. */
 #ifndef ODD_LOT_DAY_H
 #define ODD_LOT_DAY_H

@@ -1,13 +1,12 @@
 -- A file, read record by record.
-use Rattle.std.proofs.Common.{◌≡◌, ℕ, ◌+◌, ◌<◌, ◌≤◌, Bool, true, false, not, ◌&&◌, eqb, List, [], ◌∷◌, ◌++◌, length, take, drop, Some, None, sym, refl, ap, ◌∙◌, subst, arith, length-append, length-drop, length-take, take-add}
-use Rattle.std.specs.List.{flat_map, list_all}
+use Rattle.std.proofs.Common.{◌≡◌, ℕ, ◌+◌, ◌<◌, ◌≤◌, Bool, true, false, not, eqb, List, [], ◌∷◌, ◌++◌, length, take, drop, Some, None, sym, refl, ap, ◌∙◌, subst, arith, length-drop, length-take, take-add}
+use Rattle.std.specs.List.{list_all}
 use Rattle.std.proofs.lemmas.List.{append-nil, flat_map_more, take_all}
 use Rattle.std.proofs.lemmas.Bool.{and_from, and_parts, ne_eqb, not_from_false}
 use Rattle.market.proofs.Passing.{pass_push}
-use Rattle.market.specs.declared.refusal.Refusal.{Refusal}
 use Rattle.dayfile.specs.Entries.{is_start, is_writable, written}
 use Rattle.dayfile.specs.Faults.{fault_of}
-use Rattle.dayfile.specs.Files.{Begins, FileReads, NoRecord, first_faulty, joined_words, later_faulty, starts_once, whole}
+use Rattle.dayfile.specs.Files.{Begins, FileReads, NoRecord, first_faulty, later_faulty, starts_once, whole}
 use Rattle.dayfile.specs.Records.{Stands, entry_of, part_of}
 use Rattle.dayfile.specs.declared.entry.Entry.{Entry}
 use Rattle.dayfile.specs.declared.entry.Entry.TheVariants.{Start, Clock, Order, Cancel, Quote, Opening, Trade, Close}

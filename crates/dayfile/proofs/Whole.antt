@@ -1,15 +1,15 @@
 -- A record that stands at the front of a list has no fault.
-use Rattle.std.proofs.Common.{◌≡◌, ℕ, ◌+◌, ◌*◌, ◌/◌, ◌%◌, ◌<◌, ◌≤◌, Bool, true, false, cond, not, ◌&&◌, eqb, ltb, List, [], ◌∷◌, ◌++◌, length, take, drop, Some, None, Option, sym, refl, ap, ◌∙◌, subst, arith}
+use Rattle.std.proofs.Common.{◌≡◌, ℕ, ◌+◌, ◌*◌, ◌/◌, ◌%◌, Bool, true, false, cond, ◌&&◌, eqb, ltb, List, [], ◌∷◌, ◌++◌, drop, Some, None, sym, refl, ap, ◌∙◌, subst, arith}
 use Rattle.std.specs.List.{flat_map}
 use Rattle.std.proofs.lemmas.Bool.{and_from, and_parts, lt-ltb, ltb-true}
 use Rattle.market.specs.declared.refusal.Refusal.{Refusal}
 use Rattle.market.specs.declared.refusal.Refusal.TheVariants.{BadWord}
 use Rattle.dayfile.specs.Entries.{has_limit_word, has_stop_word, is_start, is_value, is_writable, order_value, written}
-use Rattle.dayfile.specs.Faults.{fault_after, fault_among, fault_from, fault_of, followers_of, gaps_clear, may_begin}
-use Rattle.dayfile.specs.Files.{NoRecord, RecordAt}
+use Rattle.dayfile.specs.Faults.{fault_after, fault_among, fault_of, followers_of, gaps_clear, may_begin}
+use Rattle.dayfile.specs.Files.{NoRecord}
 use Rattle.dayfile.specs.Kinds.{word_kind_number, word_kind_of}
 use Rattle.dayfile.specs.Records.{Stands}
-use Rattle.dayfile.specs.Words.{bytes_of, kind_at, value_at, word, word_at}
+use Rattle.dayfile.specs.Words.{bytes_of, kind_at, value_at, word}
 use Rattle.dayfile.specs.declared.entry.Entry.{Entry}
 use Rattle.dayfile.specs.declared.entry.Entry.TheVariants.{Start, Clock, Order, Cancel, Quote, Opening, Trade, Close}
 use Rattle.dayfile.specs.declared.fault.Fault.{Fault}

@@ -1,5 +1,5 @@
 -- The words that each record is written as.
-use Rattle.std.specs.Prelude.{ℕ, ◌+◌, ◌*◌, Bool, true, false, cond, not, ◌&&◌, ◌||◌, List, [], ◌∷◌, ◌++◌, ◌==◌, nat_lt}
+use Rattle.std.specs.Prelude.{ℕ, ◌+◌, ◌*◌, Bool, true, false, cond, ◌&&◌, ◌||◌, List, [], ◌∷◌, ◌++◌, ◌==◌, nat_lt}
 use Rattle.std.specs.List.{flat_map}
 use Rattle.market.specs.Terms.{kind_number}
 use Rattle.market.specs.declared.kind.Kind.TheVariants.{Limit as LimitOrder, Stop as StopOrder, StopLimit as StopLimitOrder}

@@ -1,12 +1,11 @@
 -- A play that is neither cut off nor without memory has printed every line.
-use Rattle.std.proofs.Common.{◌≡◌, ℕ, ◌+◌, ◌*◌, ◌/◌, ◌%◌, ◌<◌, ◌⊎◌, List, [], ◌∷◌, ◌++◌, length, take, drop, Some, None, Option, sym, refl, ap, ◌∙◌, inl, inr, append-nil, arith}
+use Rattle.std.proofs.Common.{◌≡◌, ℕ, ◌+◌, ◌*◌, ◌/◌, ◌%◌, ◌<◌, List, [], ◌∷◌, ◌++◌, length, take, drop, Some, None, Option, sym, refl, ap, ◌∙◌, inl, inr, append-nil, arith}
 use Rattle.std.proofs.lemmas.List.{take_at}
 use Rattle.market.specs.Terms.{refusal_number}
 use Rattle.market.specs.declared.refusal.Refusal.{Refusal}
 use Rattle.market.specs.declared.refusal.Refusal.TheVariants.{DayClosed, DayUnopened, DayOpen, BadField, TimeEarlier, QuoteCrossed, AcceptedFull, BookFull, NoSuchOrder, OrderInHand, NotForTicket, BadTicket, ReportFull, LedgerFull, FileTooLong, FileCut, BadWord, OutputShort}
 use Rattle.dayfile.specs.declared.fault.Fault.{Fault}
 use Rattle.play.specs.Lines.{texts_of}
-use Rattle.play.specs.Pages.{Shown}
 use Rattle.play.specs.Plays.{Played, PlayedOrNoMemory, end_number, lines_of}
 use Rattle.play.specs.declared.line.Line.{Line}
 use Rattle.odd_lot_day.specs.Wholes.{WholeText}

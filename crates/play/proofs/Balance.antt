@@ -1,5 +1,5 @@
 -- The ledger of a run is the sum of its fill lines.
-use Rattle.std.proofs.Common.{◌≡◌, ℕ, ◌+◌, ◌*◌, true, false, cond, List, [], ◌∷◌, ◌++◌, map, ℤ, pos, ◌+ℤ◌, ◌-ℤ◌, Some, None, fold, Option, sym, refl, ap, ◌∙◌, subst, append-nil, arith}
+use Rattle.std.proofs.Common.{◌≡◌, ℕ, ◌+◌, ◌*◌, cond, List, [], ◌∷◌, ◌++◌, map, ℤ, pos, ◌+ℤ◌, ◌-ℤ◌, Some, None, fold, Option, sym, refl, ap, ◌∙◌, subst, append-nil, arith}
 use Rattle.std.proofs.lemmas.List.Elements.{filter-append}
 use Rattle.std.proofs.lemmas.Int.{ints}
 use Rattle.std.proofs.lemmas.List.Sums.{sum_by-append}
@@ -12,11 +12,10 @@ use Rattle.ledger.specs.Posting.{Numbers}
 use Rattle.book.specs.declared.row.Row.{Row}
 use Rattle.rules.specs.Machine.{fills_of, is_fill, refusal_of, rows_of}
 use Rattle.rules.specs.Steps.{rows_if}
-use Rattle.rules.specs.declared.call.Call.{Call}
 use Rattle.day.specs.Days.{may_make}
 use Rattle.dayfile.specs.declared.entry.Entry.{Entry}
 use Rattle.play.specs.Plays.{AddsUp, fills_in, lines_of, rows_in}
-use Rattle.play.specs.Runs.{Instruction, Run, answered, call, followed, instruction_of, make, money_in, posted, refused_line, run_of, shares_in, unmade}
+use Rattle.play.specs.Runs.{Instruction, Run, call, followed, instruction_of, make, money_in, posted, refused_line, run_of, shares_in, unmade}
 use Rattle.play.specs.declared.line.Line.{Line}
 use Rattle.play.specs.declared.line.Line.TheVariants.{Row as RowLine, Refused, Total, Fault as FaultLine}
 

@@ -1,5 +1,5 @@
 -- The last line, and the answer.
-use Rattle.std.proofs.Common.{◌≡◌, ℕ, ◌+◌, ◌*◌, Bool, true, false, cond, List, [], ◌∷◌, ◌++◌, length, Some, None, Option, sym, refl, ap, ◌∙◌, subst, append-nil}
+use Rattle.std.proofs.Common.{◌≡◌, ℕ, ◌+◌, ◌*◌, cond, List, [], ◌∷◌, ◌++◌, length, Some, None, Option, sym, refl, ap, ◌∙◌, subst, append-nil}
 use Rattle.market.specs.Terms.{refusal_number}
 use Rattle.market.specs.declared.refusal.Refusal.TheVariants.{OutputShort}
 use Rattle.dayfile.specs.Files.{FileReads}
@@ -7,7 +7,7 @@ use Rattle.dayfile.specs.declared.entry.Entry.{Entry}
 use Rattle.dayfile.specs.declared.fault.Fault.{Fault}
 use Rattle.dayfile.proofs.Unique.{one_reading}
 use Rattle.play.specs.Lines.{texts_of}
-use Rattle.play.specs.Pages.{Page, Shown, is_cut}
+use Rattle.play.specs.Pages.{Page, is_cut}
 use Rattle.play.specs.Plays.{AddsUp, Played, end_number, lines_of}
 use Rattle.play.specs.Steps.{Finished, cut_number}
 use Rattle.play.specs.declared.line.Line.{Line}

@@ -1,12 +1,11 @@
 -- One line more on a page.
-use Rattle.std.proofs.Common.{◌≡◌, ℕ, ◌+◌, ◌-◌, ◌<◌, ◌≤◌, Bool, true, false, not, ◌&&◌, leb, ◌⊎◌, List, [], ◌∷◌, ◌++◌, map, length, get_or, take, drop, sym, refl, ap, ◌∙◌, subst, inl, inr, append_assoc, append-nil, arith, length-append, length-drop}
-use Rattle.std.specs.List.{flat_map}
+use Rattle.std.proofs.Common.{◌≡◌, ℕ, ◌+◌, ◌<◌, ◌≤◌, Bool, true, false, not, ◌&&◌, leb, ◌⊎◌, List, [], ◌∷◌, ◌++◌, map, length, get_or, take, drop, sym, refl, ap, ◌∙◌, subst, inl, inr, append_assoc, append-nil, arith, length-append, length-drop}
 use Rattle.std.proofs.lemmas.List.{drop_at, drop-drop, flat_map_more, map_more, take_at}
 use Rattle.std.proofs.lemmas.Bool.{leb-false, leb-true}
 use Rattle.book.specs.Orders.{no_row}
 use Rattle.book.specs.declared.row.Row.{Row as BookRow}
 use Rattle.play.specs.Lines.{text_of, texts_of}
-use Rattle.play.specs.Pages.{Page, Shown, StopsAt, Wrote, is_cut}
+use Rattle.play.specs.Pages.{Page, Shown, Wrote, is_cut}
 use Rattle.play.specs.declared.line.Line.{Line}
 use Rattle.play.specs.declared.line.Line.TheVariants.{Row}
 use Rattle.play.specs.declared.printed.Printed.{Printed}

@@ -1,22 +1,19 @@
 -- The player, record by record.
-use Rattle.std.proofs.Common.{◌≡◌, ℕ, ◌+◌, ◌<◌, ◌≤◌, Bool, true, false, eqb, List, [], ◌∷◌, ◌++◌, length, drop, ℤ, Some, None, Ok, Err, fold, sym, refl, ap, ◌∙◌, subst, arith}
+use Rattle.std.proofs.Common.{◌≡◌, ℕ, ◌+◌, ◌<◌, ◌≤◌, Bool, true, false, eqb, List, [], ◌∷◌, ◌++◌, length, drop, ℤ, Some, Ok, Err, sym, refl, ap, ◌∙◌, subst, arith}
 use Rattle.std.proofs.lemmas.List.Sums.{fold_push}
 use Rattle.std.proofs.lemmas.Bool.{ne_eqb}
 use Rattle.ledger.specs.Posting.{Numbers}
 use Rattle.rules.specs.States.{State}
 use Rattle.rules.specs.declared.call.Call.{Call}
 use Rattle.dayfile.specs.Faults.{fault_of}
-use Rattle.dayfile.specs.Files.{Begins, FileReads, NoRecord}
+use Rattle.dayfile.specs.Files.{Begins, NoRecord}
 use Rattle.dayfile.specs.Records.{Stands, entry_of, part_of}
 use Rattle.dayfile.specs.declared.entry.Entry.{Entry}
 use Rattle.dayfile.specs.declared.fault.Fault.{Fault}
 use Rattle.dayfile.specs.declared.record.Record.{Record}
 use Rattle.dayfile.proofs.Filed.{begins_first, begins_more, reads_later, reads_whole}
-use Rattle.play.specs.Pages.{Page}
-use Rattle.play.specs.Plays.{last_line}
 use Rattle.play.specs.Runs.{Instruction, Run, call, called, followed, instruction_of, make, run_of, unmade}
 use Rattle.play.specs.Steps.{Advanced, At, FilePlayed, Reached}
-use Rattle.play.specs.declared.line.Line.{Line}
 use Rattle.play.specs.declared.line.Line.TheVariants.{Total}
 use Rattle.play.specs.declared.printed.Printed.{Printed}
 

@@ -1,5 +1,5 @@
 -- The player beside the run of the definition.
-use Rattle.std.proofs.Common.{◌≡◌, ℕ, ◌+◌, ◌-◌, false, cond, List, [], ◌∷◌, ◌++◌, map, length, take, drop, Some, None, Ok, Err, Option, sym, refl, ap, ◌∙◌, subst, append-nil, arith}
+use Rattle.std.proofs.Common.{◌≡◌, ℕ, ◌-◌, false, cond, List, [], ◌∷◌, ◌++◌, map, length, take, drop, Some, None, Ok, Err, Option, sym, refl, ap, ◌∙◌, subst, append-nil, arith}
 use Rattle.std.proofs.lemmas.List.{take_at}
 use Rattle.market.specs.declared.refusal.Refusal.{Refusal}
 use Rattle.market.specs.declared.refusal.Refusal.TheVariants.{BadField}
@@ -13,7 +13,7 @@ use Rattle.rules.specs.declared.call.Call.{Call}
 use Rattle.rules.specs.declared.figures.Figures.{Figures}
 use Rattle.day.specs.Days.{Made, fresh_figures, may_make, refused_figures}
 use Rattle.play.specs.Pages.{Page, Wrote}
-use Rattle.play.specs.Runs.{Instruction, Run, answered, called, followed, make, making, posted, refused_line, unmade}
+use Rattle.play.specs.Runs.{Instruction, answered, followed, make, making, posted, refused_line, unmade}
 use Rattle.play.specs.Steps.{Advanced, At, Done}
 use Rattle.play.specs.declared.line.Line.{Line}
 use Rattle.play.specs.declared.line.Line.TheVariants.{Row as RowLine, Refused}

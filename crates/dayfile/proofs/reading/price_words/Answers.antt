@@ -1,4 +1,4 @@
-use Rattle.std.proofs.Common.{◌≡◌, Bool, false, sym, ap, ◌∙◌}
+use Rattle.std.proofs.Common.{◌≡◌, false, sym}
 use Rattle.std.proofs.lemmas.Bool.{ne_eqb, or_from}
 use Rattle.market.specs.declared.kind.Kind.TheVariants.{Limit, Stop, StopLimit}
 use Rattle.dayfile.specs.Entries.{has_limit_word, has_stop_word}

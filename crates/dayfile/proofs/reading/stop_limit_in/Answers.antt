@@ -1,4 +1,4 @@
-use Rattle.std.proofs.Common.{◌≡◌, ◌/◌, ◌%◌, true, Some, sym, refl, ap, ◌∙◌}
+use Rattle.std.proofs.Common.{◌/◌, ◌%◌, true, Some, sym, ap, ◌∙◌}
 use Rattle.std.proofs.lemmas.Result.{err_from_is_err_and}
 use Rattle.dayfile.specs.Entries.{has_limit_word, has_stop_word}
 use Rattle.dayfile.specs.Faults.{gaps_clear}

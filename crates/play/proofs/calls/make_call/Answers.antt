@@ -1,4 +1,4 @@
-use Rattle.std.proofs.Common.{◌≡◌, sym, refl, ◌∙◌}
+use Rattle.std.proofs.Common.{sym, refl, ◌∙◌}
 use Rattle.rules.specs.Steps.{quiet}
 use Rattle.day.specs.Days.{state_of}
 use Rattle.play.specs.Steps.{totals_of}

@@ -1,4 +1,4 @@
-use Rattle.std.proofs.Common.{◌≡◌, List, map, length, Ok, Err, sym, refl, ap, ◌∙◌, subst, arith}
+use Rattle.std.proofs.Common.{List, map, length, ap, subst, arith}
 use Rattle.book.specs.declared.row.Row.{Row}
 use Rattle.rules.specs.Machine.{rows_of}
 use Rattle.day.specs.Days.{state_of}

@@ -1,9 +1,9 @@
-use Rattle.std.proofs.Common.{◌≡◌, ℕ, [], ◌∷◌, ◌++◌, Some, None, sym, refl, ap, ◌∙◌, subst}
+use Rattle.std.proofs.Common.{ℕ, [], ◌∷◌, ◌++◌, Some, None, subst}
 use Rattle.play.specs.Plays.{lines_of}
 use Rattle.play.specs.Runs.{run_of}
 use Rattle.play.specs.Steps.{Finished}
 use Rattle.play.specs.declared.line.Line.{Line}
-use Rattle.play.proofs.Finishing.{fault_number, played}
+use Rattle.play.proofs.Finishing.{played}
 use Rattle.play.proofs.play.play_into.Goals as goal
 
 pub returns-in-Ok : goal.returns-in-Ok

@@ -1,4 +1,4 @@
-use Rattle.std.proofs.Common.{◌≡◌, ℕ, [], ◌∷◌, Some, sym, ap, ◌∙◌, subst}
+use Rattle.std.proofs.Common.{ℕ, [], Some, sym, subst}
 use Rattle.dayfile.specs.Files.{FileReads, too_long}
 use Rattle.dayfile.specs.declared.fault.Fault.{Fault}
 use Rattle.play.specs.Plays.{lines_of}

@@ -1,4 +1,4 @@
-use Rattle.std.proofs.Common.{◌≡◌, Result, ap, ◌∙◌, subst, arith}
+use Rattle.std.proofs.Common.{Result, ap, ◌∙◌, subst, arith}
 use Rattle.market.specs.declared.refusal.Refusal.{Refusal}
 use Rattle.day.specs.Days.{Made, MadeClosed, state_of}
 use Rattle.play.specs.Runs.{instruction_of}

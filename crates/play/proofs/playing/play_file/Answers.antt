@@ -1,8 +1,7 @@
-use Rattle.std.proofs.Common.{◌≡◌, ℕ, ◌≤◌, true, List, [], ◌∷◌, length, sym, refl, ap, ◌∙◌, subst, arith}
+use Rattle.std.proofs.Common.{◌≡◌, true, [], ◌∷◌, length, sym, ap, subst, arith}
 use Rattle.std.proofs.lemmas.Result.{err_from_is_err_and}
-use Rattle.dayfile.specs.Entries.{is_start}
 use Rattle.dayfile.specs.Files.{too_long}
-use Rattle.dayfile.specs.Records.{Stands, entry_of, part_of}
+use Rattle.dayfile.specs.Records.{entry_of, part_of}
 use Rattle.dayfile.specs.declared.entry.Entry.{Entry}
 use Rattle.dayfile.proofs.Filed.{part_inside, part_some, reads_first}
 use Rattle.day.specs.Days.{state_of}

@@ -1,8 +1,7 @@
-use Rattle.std.proofs.Common.{◌≡◌, ℕ, ◌+◌, ◌<◌, ◌≤◌, [], ◌∷◌, ◌++◌, length, drop, sym, refl, ap, ◌∙◌, subst, arith, w64, to_z, of_z, rules}
+use Rattle.std.proofs.Common.{◌≡◌, ℕ, ◌+◌, ◌<◌, [], ◌∷◌, ◌++◌, length, drop, sym, ap, ◌∙◌, subst, arith, w64, to_z, of_z, rules}
 use Rattle.std.proofs.lemmas.Result.{err_from_is_err_and}
 use Rattle.dayfile.specs.Entries.{is_start}
-use Rattle.dayfile.specs.Records.{Stands, entry_of, part_of}
-use Rattle.dayfile.specs.declared.entry.Entry.{Entry}
+use Rattle.dayfile.specs.Records.{entry_of, part_of}
 use Rattle.dayfile.proofs.Filed.{part_inside, part_some}
 use Rattle.day.specs.Days.{state_of}
 use Rattle.play.specs.Runs.{call, instruction_of}

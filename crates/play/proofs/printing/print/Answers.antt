@@ -1,7 +1,6 @@
-use Rattle.std.proofs.Common.{◌≡◌, ◌+◌, ◌-◌, ◌⊎◌, length, take, sym, refl, ap, ◌∙◌, inl, inr, arith, rules}
+use Rattle.std.proofs.Common.{◌≡◌, ◌+◌, ◌-◌, length, take, sym, refl, ap, ◌∙◌, inl, inr, arith, rules}
 use borrow.Rule.Slice.PartMut.{put_mid}
 use Rattle.std.proofs.lemmas.List.{length-take-le}
-use Rattle.play.specs.Lines.{text_of}
 use Rattle.play.specs.Texts.{text_in}
 use Rattle.play.proofs.Paged.{no_room, page_cut, page_more, with_room}
 use Rattle.play.proofs.printing.print.Goals as goal

@@ -1,8 +1,7 @@
-use Rattle.std.proofs.Common.{◌≡◌, List, [], ◌∷◌, map, take, sym, refl, ap, ◌∙◌, subst, arith}
+use Rattle.std.proofs.Common.{List, map, subst, arith}
 use Rattle.std.proofs.lemmas.List.{take_all}
 use Rattle.book.specs.declared.row.Row.{Row as BookRow}
 use Rattle.play.specs.Pages.{Wrote}
-use Rattle.play.specs.declared.line.Line.{Line}
 use Rattle.play.specs.declared.line.Line.TheVariants.{Row}
 use Rattle.play.proofs.Paged.{wrote_none, wrote_row}
 use Rattle.play.proofs.printing.print_rows.Goals as goal
