@@ -71,7 +71,7 @@ pub record WorkedExamples : Type 0 where
   pub minus_tick : sale_rows (trade_after 200100 true 200000 100) (market 1 SellShort 30 ∷ []) ≡ []
   -- a buy stop at 200,100: the sale at 200,100 elects it and does not fill it, the next at 200,500 fills it
   pub stop_waits : sale_rows (trade 200100 100) (order 1 Buy Stop 20 0 200100 ∷ []) ≡ []
-  pub stop-filled :
+  pub stop_filled :
       sale_rows (trade_after 200100 true 200500 100) (after_sale (trade 200100 100) (order 1 Buy Stop 20 0 200100 ∷ []))
       ≡ row 1 Buy 20 200500 Sale ∷ []
   -- a market buy, offer 200,100: 30,000 past its receipt it is not filled, at 30,001 it is
@@ -79,10 +79,10 @@ pub record WorkedExamples : Type 0 where
   pub timer_fills : rows_by (timer_row 30001 (offered 200100)) (market 1 Buy 70 ∷ []) ≡ row 1 Buy 70 200100 Offer ∷ []
   -- unit 10, opening of 10, market buys of 9 and 9 and then a limit buy of 9: the limit order waits, a market buy in its
   -- place is filled
-  pub opening-limit :
+  pub opening_limit :
       sale_rows (opening_at 200000 10) (market 1 Buy 9 ∷ market 2 Buy 9 ∷ order 3 Buy Limit 9 200000 0 ∷ [])
       ≡ row 1 Buy 9 200000 Opening ∷ row 2 Buy 9 200000 Opening ∷ []
-  pub opening-market :
+  pub opening_market :
       sale_rows (opening_at 200000 10) (market 1 Buy 9 ∷ market 2 Buy 9 ∷ market 3 Buy 9 ∷ [])
       ≡ row 1 Buy 9 200000 Opening ∷ row 2 Buy 9 200000 Opening ∷ row 3 Buy 9 200000 Opening ∷ []
   -- 99 shares are accepted, 100 and 0 refused as a bad field
