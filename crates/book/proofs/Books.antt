@@ -1,6 +1,7 @@
 -- What keeps a book a book: one order more, some fewer, stops elected.
 use Rattle.std.proofs.Common.{◌≡◌, ℕ, ◌≤◌, Bool, true, false, cond, ◌&&◌, ltb, List, [], ◌∷◌, ◌++◌, map, length, filter, refl, ap, ◌∙◌, arith}
 use Rattle.std.specs.List.{list_all}
+use Rattle.std.proofs.lemmas.List.Folds.{list_all-map}
 use Rattle.std.proofs.lemmas.List.Sums.{length-filter, count_by-le-length}
 use Rattle.std.proofs.lemmas.Bool.{and_parts, and_from}
 use Rattle.market.proofs.Passing.{pass_push}
@@ -35,15 +36,11 @@ rises_kept p (x ∷ xs) h =
     elim (p x) as (λ b. rises (cond b (x ∷ filter p xs) (filter p xs)) ≡ true) [ true ↦ and_from _ _ (pass_kept (λ y. ltb x.number y.number) p xs parts.0) rest | false ↦ rest ]
 
 -- an election changes neither numbers nor what is lawful
-pass_elect : (q : Order → Bool) (price : ℕ) → ((o : Order) → q (elect price o) ≡ q o) → (xs : List Order) → list_all q (map (elect price) xs) ≡ list_all q xs
-pass_elect q price same [] = refl
-pass_elect q price same (x ∷ xs) = ap (λ b. b && list_all q (map (elect price) xs)) (same x) ∙ ap (λ b. q x && b) (pass_elect q price same xs)
-
 pub lawful_elect : (unit price : ℕ) (xs : List Order) → list_all (lawful unit) (map (elect price) xs) ≡ list_all (lawful unit) xs
-lawful_elect unit price xs = pass_elect (lawful unit) price (λ o. refl) xs
+lawful_elect unit price xs = list_all-map (lawful unit) (elect price) xs
 
 pub rises_elect : (price : ℕ) (xs : List Order) → rises (map (elect price) xs) ≡ rises xs
 rises_elect price [] = refl
 rises_elect price (x ∷ xs) =
-    ap (λ b. b && rises (map (elect price) xs)) (pass_elect (λ y. ltb x.number y.number) price (λ o. refl) xs)
+    ap (λ b. b && rises (map (elect price) xs)) (list_all-map (λ y. ltb x.number y.number) (elect price) xs)
     ∙ ap (λ b. list_all (λ y. ltb x.number y.number) xs && b) (rises_elect price xs)

@@ -10,7 +10,8 @@ use Rattle.market.specs.Sums.{shares_on}
 use Rattle.market.specs.declared.side.MarketSide.{MarketSide}
 use Rattle.market.specs.declared.side.MarketSide.TheVariants.{Buying, Selling}
 use Rattle.book.specs.Law.{eligible_on, filled_on, on, shares_in}
-use Rattle.book.specs.Orders.{has_limit, has_stop, lawful, rises, suits}
+use Rattle.market.specs.Terms.{has_limit, has_stop}
+use Rattle.book.specs.Orders.{lawful, rises, suits}
 use Rattle.book.specs.Sales.{eligible, eligible_shares, matched, reach}
 use Rattle.book.specs.declared.order.Order.{Order}
 use Rattle.book.specs.declared.sale.RoundLot.{RoundLot}

@@ -1,4 +1,5 @@
 pub mod Ahead
+pub mod Finding
 pub mod Rows
 pub mod Books
 pub mod Runs

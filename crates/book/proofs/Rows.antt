@@ -1,25 +1,19 @@
 -- The rows of a pass, as loops meet them.
-use Rattle.std.proofs.Common.{◌≡◌, ℕ, ◌+◌, ◌<◌, ◌≤◌, true, false, cond, not, List, [], ◌∷◌, ◌++◌, length, get_or, take, drop, set, is_some, Some, None, Option, sym, refl, ap, ◌∙◌, arith, length-append}
+use Rattle.std.proofs.Common.{◌≡◌, ℕ, ◌+◌, ◌<◌, ◌≤◌, cond, not, List, [], ◌∷◌, ◌++◌, length, get_or, take, drop, set, is_some, Some, None, Option, sym, refl, ap, ◌∙◌, arith, length-append}
 use Rattle.std.proofs.lemmas.List.{append_assoc, append-nil, drop_more, set_at, take_more, length_push, take-append-drop}
 use Rattle.book.specs.Orders.{no_order}
-use Rattle.book.specs.Passes.{before, rows_by, stays_by}
+use Rattle.std.proofs.lemmas.List.Elements.{filter_map-append}
+use Rattle.std.specs.List.{cons_option}
+use Rattle.book.specs.Passes.{rows_by, stays_by}
 use Rattle.book.specs.declared.order.Order.{Order}
 use Rattle.book.specs.declared.row.Row.{Row}
 
-before_append : (r : Option Row) (xs ys : List Row) → before r (xs ++ ys) ≡ before r xs ++ ys
-before_append None xs ys = refl
-before_append (Some r) xs ys = refl
-
-pub rows_append : (f : Order → Option Row) (xs ys : List Order) → rows_by f (xs ++ ys) ≡ rows_by f xs ++ rows_by f ys
-rows_append f [] ys = refl
-rows_append f (x ∷ xs) ys = ap (before (f x)) (rows_append f xs ys) ∙ before_append (f x) (rows_by f xs) (rows_by f ys)
-
 -- one order more
-rows_more : (f : Order → Option Row) (xs : List Order) (i : ℕ) (r : Option Row) → i < length xs → r ≡ f (get_or xs i no_order) → rows_by f (take (i + 1) xs) ≡ rows_by f (take i xs) ++ before r []
+rows_more : (f : Order → Option Row) (xs : List Order) (i : ℕ) (r : Option Row) → i < length xs → r ≡ f (get_or xs i no_order) → rows_by f (take (i + 1) xs) ≡ rows_by f (take i xs) ++ cons_option r []
 rows_more f xs i r within e =
     ap (rows_by f) (take_more xs i no_order within)
-    ∙ rows_append f (take i xs) (get_or xs i no_order ∷ [])
-    ∙ ap (λ o. rows_by f (take i xs) ++ before o []) (sym e)
+    ∙ filter_map-append f (take i xs) (get_or xs i no_order ∷ [])
+    ∙ ap (λ o. rows_by f (take i xs) ++ cons_option o []) (sym e)
 
 pub rows_more_no : (f : Order → Option Row) (xs : List Order) (i : ℕ) → i < length xs → None ≡ f (get_or xs i no_order) → rows_by f (take (i + 1) xs) ≡ rows_by f (take i xs)
 rows_more_no f xs i within e = rows_more f xs i None within e ∙ append-nil (rows_by f (take i xs))
@@ -31,7 +25,7 @@ rows_more_yes f xs i r within e = rows_more f xs i (Some r) within e
 pub rows_front_le : (f : Order → Option Row) (xs : List Order) (i : ℕ) → length (rows_by f (take i xs)) ≤ length (rows_by f xs)
 rows_front_le f xs i =
     let whole = ap (λ l. length (rows_by f l)) (take-append-drop i xs) in
-    let parts = ap length (rows_append f (take i xs) (drop i xs)) ∙ length-append (rows_by f (take i xs)) (rows_by f (drop i xs)) in
+    let parts = ap length (filter_map-append f (take i xs) (drop i xs)) ∙ length-append (rows_by f (take i xs)) (rows_by f (drop i xs)) in
     omega (arith, whole, parts)
 
 -- one row more has its place
@@ -48,23 +42,10 @@ write_more f xs i n r ys zs within e is at room =
     ∙ set_at front (get_or zs n r) (drop (n + 1) zs) r n (sym at)
     ∙ sym (ap (λ l. l ++ drop (n + 1) zs) (rows_more_yes f xs i r within e) ∙ append_assoc front (r ∷ []) (drop (n + 1) zs))
 
--- a row or none, counted
-pub one_row : (r : Option Row) → is_some r ≡ true → length (before r []) ≡ 1
-one_row (Some r) h = refl
-one_row None h = let z : ◌≡◌ {A = ℕ} 0 1 = cc in omega arith
-
-pub no_rows : (r : Option Row) → is_some r ≡ false → length (before r []) ≡ 0
-no_rows (Some r) h = let z : ◌≡◌ {A = ℕ} 0 1 = cc in omega arith
-no_rows None h = refl
-
-pub count_more : (f : Order → Option Row) (xs : List Order) (i n m : ℕ) (r : Option Row) → i < length xs → r ≡ f (get_or xs i no_order) → n ≡ length (rows_by f (take i xs)) → m ≡ n + length (before r []) → m ≡ length (rows_by f (take (i + 1) xs))
-count_more f xs i n m r within e at is =
-    omega (arith, ap length (rows_more f xs i r within e) ∙ length-append (rows_by f (take i xs)) (before r []))
-
 -- two passes that take out the same orders with the same rows
 pub rows_same : (f g : Order → Option Row) → ((o : Order) → f o ≡ g o) → (xs : List Order) → rows_by f xs ≡ rows_by g xs
 rows_same f g same [] = refl
-rows_same f g same (x ∷ xs) = ap (λ r. before r (rows_by f xs)) (same x) ∙ ap (before (g x)) (rows_same f g same xs)
+rows_same f g same (x ∷ xs) = ap (λ r. cons_option r (rows_by f xs)) (same x) ∙ ap (cons_option (g x)) (rows_same f g same xs)
 
 pub stays_same : (f g : Order → Option Row) → ((o : Order) → f o ≡ g o) → (xs : List Order) → stays_by f xs ≡ stays_by g xs
 stays_same f g same [] = refl

@@ -1,9 +1,9 @@
 -- Which orders are lawful, and what a book of them is.
 use Rattle.std.specs.Prelude.{ℕ, Bool, true, false, cond, ◌&&◌, List, [], ◌∷◌, length, Some, None, Option, ◌==◌, nat_lt}
-use Rattle.std.specs.List.{list_all}
+use Rattle.std.specs.List.{find, list_all}
 use Rattle.market.specs.Limits.{has_live_room, is_odd_lot, is_price}
-use Rattle.market.specs.declared.kind.Kind.{Kind}
-use Rattle.market.specs.declared.kind.Kind.TheVariants.{Market, Limit, Stop, StopLimit}
+use Rattle.market.specs.Terms.{has_limit, has_stop}
+use Rattle.market.specs.declared.kind.Kind.TheVariants.{Market}
 use Rattle.market.specs.declared.mark.Mark.TheVariants.{Opening}
 use Rattle.market.specs.declared.refusal.Refusal.{Refusal}
 use Rattle.market.specs.declared.refusal.Refusal.TheVariants.{BadField, BookFull}
@@ -18,19 +18,6 @@ no_order =
 
 abbrev pub no_row : Row
 no_row = record { number = 0; side = Buy; shares = 0; price = 0; mark = Opening }
-
--- the kinds that have a limit price, and those that have a stop price
-abbrev pub has_limit : Kind → Bool
-has_limit Market = false
-has_limit Limit = true
-has_limit Stop = false
-has_limit StopLimit = true
-
-abbrev pub has_stop : Kind → Bool
-has_stop Market = false
-has_stop Limit = false
-has_stop Stop = true
-has_stop StopLimit = true
 
 -- a price that the kind has is a price, and one that it has not is 0
 abbrev pub suits : Bool → ℕ → Bool
@@ -47,8 +34,7 @@ rises (x ∷ xs) = list_all (λ y. nat_lt x.number y.number) xs && rises xs
 
 -- the order with a number, if it is there
 abbrev pub find_in : ℕ → List Order → Option Order
-find_in n [] = None
-find_in n (x ∷ xs) = cond (x.number == n) (Some x) (find_in n xs)
+find_in n book = find (λ x. x.number == n) book
 
 -- the number is above every number in the book
 abbrev pub is_new : ℕ → List Order → Bool

@@ -1,7 +1,7 @@
 -- Sales of round lots, and what they fill: Rule 124(b)(i) to (iii), (b)(v), (b)(vii), (c) to (f).
-use Rattle.std.specs.Prelude.{ℕ, ◌+◌, min, Bool, true, false, cond, not, ◌&&◌, ◌||◌, ltb, List, map, Some, None, filter, Option, ◌==◌, nat_le, nat_lt}
+use Rattle.std.specs.Prelude.{ℕ, ◌+◌, min, Bool, true, false, cond, not, ◌&&◌, ◌||◌, List, map, Some, None, filter, Option, ◌==◌, nat_le, nat_lt}
 use Rattle.market.specs.Sums.{sum_on}
-use Rattle.market.specs.Terms.{market_side}
+use Rattle.market.specs.Terms.{has_stop, market_side}
 use Rattle.market.specs.declared.kind.Kind.{Kind}
 use Rattle.market.specs.declared.kind.Kind.TheVariants.{Market, Limit, Stop, StopLimit}
 use Rattle.market.specs.declared.mark.Mark.{Mark}
@@ -10,7 +10,6 @@ use Rattle.market.specs.declared.side.Side.{Side}
 use Rattle.market.specs.declared.side.Side.TheVariants.{Buy, SellLong, SellShort}
 use Rattle.market.specs.declared.side.MarketSide.{MarketSide}
 use Rattle.market.specs.declared.side.MarketSide.TheVariants.{Buying, Selling}
-use Rattle.book.specs.Orders.{has_stop}
 use Rattle.book.specs.Passes.{rows_by, stays_by}
 use Rattle.book.specs.declared.order.Order.{Order}
 use Rattle.book.specs.declared.row.Row.{Row}
@@ -67,7 +66,7 @@ reach s book = matched s book + s.volume
 -- the eligible shares on a side of the market with numbers smaller than n: of an order on that side with the number n,
 -- the shares ahead
 unfoldable pub ahead : RoundLot → List Order → MarketSide → ℕ → ℕ
-ahead s book which n = eligible_shares s which (filter (λ x. ltb x.number n) book)
+ahead s book which n = eligible_shares s which (filter (λ x. nat_lt x.number n) book)
 
 -- the order is filled whole, at the sale's price: an eligible order whose shares ahead are fewer than M + V, Rule
 -- 124(b)(ii) and (iii); in the opening each eligible market order, Rule 124(b)(v)

@@ -14,24 +14,7 @@ use std::alloc::{AllocError, Global};
 fn is_new(orders: &[Order], number: u32) -> bool
     ensures { result ≡ is_new number orders.now }
 {
-    for order in orders {
-        if order.number >= number {
-            return false;
-        }
-    }
-    true
-}
-
-// The order with a number, if it is there.
-fn find_in(orders: &[Order], number: u32) -> Option<Order>
-    ensures { result ≡ find_in number orders.now }
-{
-    for order in orders {
-        if order.number == number {
-            return Some(*order);
-        }
-    }
-    None
+    orders.iter().all(|order| order.number < number)
 }
 
 impl Book {
@@ -80,6 +63,10 @@ impl Book {
     pub fn find(&self, number: u32) -> Option<Order>
         ensures { result ≡ find_in number (orders_of self.now) }
     {
-        find_in(self.orders.as_slice(), number)
+        let orders = self.orders.as_slice();
+        match orders.binary_search_by_key(&number, |order| order.number) {
+            Ok(at) => Some(orders[at]),
+            Err(_) => None,
+        }
     }
 }

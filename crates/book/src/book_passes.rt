@@ -1,30 +1,18 @@
 // Passes over a book: what each fills, what it reports, and the book after it.
-ghost use Rattle.std.specs.Prelude.{◌≡◌, List, map, length};
+ghost use Rattle.std.specs.Prelude.{◌≡◌, map, length};
 ghost use Rattle.book.specs.Books.{Applied, Reported, Sold, orders_of};
-ghost use Rattle.book.specs.Cuts.{cut_row};
 ghost use Rattle.book.specs.Law.{TradeLaw};
 ghost use Rattle.book.specs.Passes.{rows_by, stays_by};
-ghost use Rattle.book.specs.Sales.{elect as elect_at, sale_row};
-ghost use Rattle.book.specs.declared.order.Order.{Order};
+ghost use Rattle.book.specs.Sales.{elect as elect_at};
 
 use crate::book::Book;
-use crate::cuts::sale_pass;
-use crate::order::Order;
-use crate::pass::{Pass, SalePass};
+use crate::pass::Pass;
 use crate::row::Row;
 use crate::sale::RoundLot;
 use crate::settle::{count, elect_all, keep, write};
 use market::refusal::Refusal;
 
 impl Book {
-    // The pass of a sale: it takes out just the orders that the sale fills.
-    pub fn sale(&self, sale: RoundLot) -> SalePass
-        ensures sale { result.sale ≡ sale }
-        ensures rows { (o : Order) → cut_row result o ≡ sale_row sale (orders_of self.now) o }
-    {
-        sale_pass(self.orders.as_slice(), sale)
-    }
-
     // How many rows a pass has.
     pub fn count<P: Pass>(&self, pass: &P) -> usize
         ensures { result ≡ length (rows_by (P.leaves pass.now) (orders_of self.now)) }

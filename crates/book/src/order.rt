@@ -1,5 +1,9 @@
 // Orders.
+ghost use Rattle.std.specs.Prelude.{◌≡◌};
+
+use crate::row::Row;
 use market::kind::Kind;
+use market::mark::Mark;
 use market::side::Side;
 use market::sided::Sided;
 
@@ -18,6 +22,23 @@ pub struct Order {
     pub elected: bool,
     // taken out of the automatic rules by the specialist, who holds a ticket for it
     pub in_hand: bool,
+}
+
+impl Order {
+    ghost use Rattle.book.specs.Sales.{row_of};
+
+    // The row of the order, where it leaves the book at a price.
+    pub fn row(&self, price: u32, mark: Mark) -> Row
+        ensures { result ≡ row_of price mark self.now }
+    {
+        Row {
+            number: self.number,
+            side: self.side,
+            shares: self.shares,
+            price,
+            mark,
+        }
+    }
 }
 
 impl Sided for Order {

@@ -2,7 +2,7 @@
 ghost use Rattle.std.specs.Prelude.{◌≡◌, ℕ, Bool};
 ghost use Rattle.book.specs.Cuts.{below as below_end, cut_row};
 ghost use Rattle.book.specs.Quotes.{close_row, quote_row, quote_row_of, row_at, timer_row};
-ghost use Rattle.book.specs.Sales.{row_of, sale_mark};
+ghost use Rattle.book.specs.Sales.{sale_mark};
 
 use crate::order::Order;
 use crate::pass::{ClosePass, Pass, SalePass, TimerPass};
@@ -12,37 +12,18 @@ use crate::sale::{RoundLot, eligible, is_market};
 use market::mark::Mark;
 use market::side::{MarketSide, Side};
 
-// The row of an order that leaves.
-fn row_of(order: &Order, price: u32, mark: Mark) -> Row
-    ensures { result ≡ row_of price mark order.now }
-{
-    Row {
-        number: order.number,
-        side: order.side,
-        shares: order.shares,
-        price,
-        mark,
-    }
-}
-
 // The row of an order at a price that may be missing.
 fn row_at(order: &Order, price: Option<u32>, mark: Mark) -> Option<Row>
     ensures { result ≡ row_at price mark order.now }
 {
-    match price {
-        Some(price) => Some(row_of(order, price, mark)),
-        None => None,
-    }
+    price.map(|price| order.row(price, mark))
 }
 
 // Whether a number comes before the end of the fills, if they end.
 fn is_below(end: Option<u64>, number: u32) -> bool
     ensures { result ≡ below_end end number }
 {
-    match end {
-        Some(end) => u64::from(number) < end,
-        None => true,
-    }
+    end.is_none_or(|end| u64::from(number) < end)
 }
 
 fn sale_mark(sale: &RoundLot) -> Mark
@@ -79,7 +60,7 @@ impl Pass for SalePass {
         };
         let at_any_volume = self.sale.opening && is_market(order);
         if eligible(order, &self.sale) && (at_any_volume || is_below(end, order.number)) {
-            Some(row_of(order, self.sale.price, sale_mark(&self.sale)))
+            Some(order.row(self.sale.price, sale_mark(&self.sale)))
         } else {
             None
         }
@@ -107,9 +88,6 @@ impl Pass for ClosePass {
         } else {
             None
         };
-        match fill {
-            Some(row) => Some(row),
-            None => Some(row_of(order, 0, Mark::Lapse)),
-        }
+        fill.or_else(|| Some(order.row(0, Mark::Lapse)))
     }
 }

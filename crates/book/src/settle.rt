@@ -13,13 +13,7 @@ use market::side::MarketSide;
 pub(crate) fn count<P: Pass>(orders: &[Order], pass: &P) -> usize
     ensures { result ≡ length (rows_by (P.leaves pass.now) orders.now) }
 {
-    let mut n: usize = 0;
-    for order in orders {
-        if pass.row(order).is_some() {
-            n += 1;
-        }
-    }
-    n
+    orders.iter().filter_map(|order| pass.row(order)).count()
 }
 
 // Writes the rows of a pass from the report's first place on.
@@ -27,14 +21,13 @@ pub(crate) fn write<P: Pass>(orders: &[Order], pass: &P, report: &mut [Row])
     requires { length (rows_by (P.leaves pass.now) orders.now) ≤ length report.old }
     ensures { report.new ≡ rows_by (P.leaves pass.now) orders.now ++ drop (length (rows_by (P.leaves pass.now) orders.now)) report.old }
 {
+    // `n` counts rows and not orders. A `for` over the rows with `enumerate`, or over a `zip` with the places, is not
+    // proved: in a generic function the checker cannot type its own terms for that iterator.
     let mut n: usize = 0;
     for order in orders {
-        match pass.row(order) {
-            Some(row) => {
-                report[n] = row;
-                n += 1;
-            }
-            None => {}
+        if let Some(row) = pass.row(order) {
+            report[n] = row;
+            n += 1;
         }
     }
 }
@@ -44,20 +37,12 @@ pub(crate) fn keep<P: Pass>(orders: &mut Vec<Order>, pass: &P)
     ensures items { orders.new.items ≡ stays_by (P.leaves pass.now) orders.old.items }
     ensures capacity { vec_capacity orders.new ≡ vec_capacity orders.old }
 {
-    let mut next: usize = 0;
-    for i in 0..orders.len() {
-        let order = orders[i];
-        if pass.row(&order).is_none() {
-            orders[next] = order;
-            next += 1;
-        }
-    }
-    orders.truncate(next);
+    orders.retain(|order| pass.row(order).is_none());
 }
 
 // The order after a sale at this price: elected where the sale reaches its stop.
-fn elect(order: Order, price: u32) -> Order
-    ensures { result ≡ elect_at price order }
+fn elect(order: &Order, price: u32) -> Order
+    ensures { result ≡ elect_at price order.now }
 {
     let reached = match (order.kind, order.side.market_side()) {
         (Kind::Stop | Kind::StopLimit, MarketSide::Buying) => order.stop <= price,
@@ -66,7 +51,7 @@ fn elect(order: Order, price: u32) -> Order
     };
     Order {
         elected: order.elected || reached,
-        ..order
+        ..*order
     }
 }
 
@@ -75,8 +60,7 @@ pub(crate) fn elect_all(orders: &mut Vec<Order>, price: u32)
     ensures items { orders.new.items ≡ map (elect_at price) orders.old.items }
     ensures capacity { vec_capacity orders.new ≡ vec_capacity orders.old }
 {
-    for i in 0..orders.len() {
-        let order = elect(orders[i], price);
-        orders[i] = order;
+    for order in orders.iter_mut() {
+        *order = elect(order, price);
     }
 }

@@ -1,25 +1,13 @@
-use Rattle.std.proofs.Common.{◌<◌, ◌≤◌, ◌++◌, map, length, drop, set, vec_items, ap, ◌∙◌, take_all, rules}
+use Rattle.std.proofs.Common.{get_or, set, ap, ◌∙◌, arith}
+use Rattle.std.proofs.lemmas.List.{get_or_default}
 use Rattle.std.proofs.lemmas.List.Edits.{map_over_more}
-use Rattle.std.proofs.lemmas.List.{append-nil, drop_all}
+use Rattle.book.specs.Orders.{no_order}
 use Rattle.book.specs.Sales.{elect}
 use Rattle.book.proofs.settle.elect_all.Goals as goal
 
-pub loop-i-preserved : goal.loop-i-preserved
-loop-i-preserved c =
-    let l = c.loop-i in
-    let xs = vec_items c.args.orders.now in
-    let inside : l.i < length xs = search rules in (
-      ap (set l.orders.items l.i) c.elect-order.ensures ∙ map_over_more (elect c.args.price) xs l.orders.items l.i c.index.result.now inside l.invariant.0 c.index.ensures,
-      l.invariant.1,
-      l.invariant.2,
-    )
-
-pub returns : goal.returns
-returns c =
-    let l = c.loop-i in
-    let xs = vec_items c.args.orders.now in
-    let through : length xs ≤ l.i = search rules in
-    record {
-      items = l.invariant.0 ∙ ap (λ ys. map (elect c.args.price) ys ++ drop l.i xs) (take_all l.i xs through) ∙ ap (λ ys. map (elect c.args.price) xs ++ ys) (drop_all l.i xs through) ∙ append-nil (map (elect c.args.price) xs);
-      capacity = l.invariant.2;
-    }
+pub loop-order-preserved : goal.loop-order-preserved
+loop-order-preserved c =
+    let l = c.loop-order in
+    let o = get_or l.order-items l.order-index no_order in
+    ap (set l.order-items l.order-index) c.elect.ensures
+    ∙ map_over_more (elect c.args.price) c.deref_mut-order-items.result.now l.order-items l.order-index o c.loop-order-test.true l.invariant (get_or_default l.order-items l.order-index no_order o (omega arith))

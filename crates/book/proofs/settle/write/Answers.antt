@@ -3,7 +3,7 @@ use Rattle.std.proofs.lemmas.List.{length_push}
 use Rattle.book.specs.Passes.{rows_by}
 use Rattle.book.proofs.Rows.{rows_room, rows_more_yes, rows_more_no, write_more}
 use Rattle.book.proofs.settle.write.Goals as goal
-use Rattle.book.proofs.settle.write.Goals.{in-Some, in-None}
+use Rattle.book.proofs.settle.write.Goals.{in-Some, in_default}
 
 pub bounds-report-n : goal.bounds-report-n
 bounds-report-n g c =
@@ -30,8 +30,8 @@ loop-order-preserved g c =
             omega (arith, w.n-is, more, l.invariant.1),
             omega (arith, w.n-is),
           )
-      | in-None w ↦
-          let at = sym w.in-None.is ∙ c.row.ensures in
+      | in_default w ↦
+          let at = sym w.in_default.is ∙ c.row.ensures in
           let same = rows_more_no f xs i c.loop-order-test.true at in
           (rw (w.report-is, w.n-is, same) l.invariant.0, rw (w.n-is, same) l.invariant.1, omega (arith, w.n-is))
     ]

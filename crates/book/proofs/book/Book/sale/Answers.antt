@@ -1,4 +1,4 @@
-use Rattle.std.proofs.Common.{◌≡◌, ℕ, cond, ◌&&◌, ◌||◌, ltb, List, Some, None, Option, sym, refl, ap, subst}
+use Rattle.std.proofs.Common.{◌≡◌, vec_items, ℕ, cond, ◌&&◌, ◌||◌, ltb, List, Some, None, Option, sym, refl, ap, subst}
 use Rattle.market.specs.Terms.{market_side}
 use Rattle.market.specs.declared.side.MarketSide.{MarketSide}
 use Rattle.market.specs.declared.side.MarketSide.TheVariants.{Buying, Selling}
@@ -7,7 +7,7 @@ use Rattle.book.specs.Sales.{ahead, eligible, is_market, reach, row_of, sale_mar
 use Rattle.book.specs.declared.order.Order.{Order}
 use Rattle.book.specs.declared.pass.SalePass.{SalePass}
 use Rattle.book.specs.declared.sale.RoundLot.{RoundLot}
-use Rattle.book.proofs.cuts.sale_pass.Goals as goal
+use Rattle.book.proofs.book.Book.sale.Goals as goal
 
 -- both cuts are right
 by_side : (s : RoundLot) (book : List Order) (c : SalePass) → ((n : ℕ) → ltb (ahead s book Buying n) (reach s book) ≡ below c.buys n) → ((n : ℕ) → ltb (ahead s book Selling n) (reach s book) ≡ below c.sells n) → (which : MarketSide) (n : ℕ) → ltb (ahead s book which n) (reach s book) ≡ below (cut_on c which) n
@@ -22,7 +22,7 @@ right s book b e buys sells o =
 pub returns : goal.returns
 returns c =
     let s = c.args.sale in
-    let book = c.args.orders.now in
+    let book = (vec_items c.args.self.now.orders) in
     let limit = c.reach-limit.ensures in
     record {
       sale = refl;
