@@ -1,4 +1,8 @@
 // The rows of reports.
+ghost use Rattle.std.specs.Prelude.{◌≡◌};
+ghost use Rattle.market.specs.declared.mark.Mark.TheVariants.{Lapse};
+ghost use Rattle.market.specs.declared.side.Side.TheVariants.{Buy};
+
 use market::mark::Mark;
 use market::side::Side;
 use market::sided::Sided;
@@ -11,6 +15,21 @@ pub struct Row {
     pub shares: u32,
     pub price: u32,
     pub mark: Mark,
+}
+
+impl Row {
+    // A row for lists that are lent to a call: no order's, no shares.
+    pub fn blank() -> Row
+        ensures { result ≡ record { number = 0; side = Buy; shares = 0; price = 0; mark = Lapse } }
+    {
+        Row {
+            number: 0,
+            side: Side::Buy,
+            shares: 0,
+            price: 0,
+            mark: Mark::Lapse,
+        }
+    }
 }
 
 impl Sided for Row {

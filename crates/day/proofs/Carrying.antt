@@ -4,7 +4,7 @@ use Rattle.std.specs.List.{list_all}
 use Rattle.market.specs.declared.refusal.Refusal.{Refusal}
 use Rattle.ledger.specs.Posting.{Numbers}
 use Rattle.book.specs.Passes.{rows_by, stays_by}
-use Rattle.book.specs.Sales.{after_sale, elect, sale_row, sale_rows}
+use Rattle.book.specs.Sales.{elect, sale_row, sale_rows}
 use Rattle.book.specs.declared.order.Order.{Order}
 use Rattle.book.specs.declared.sale.RoundLot.{RoundLot}
 use Rattle.book.specs.declared.row.Row.{Row}
@@ -16,18 +16,19 @@ use Rattle.rules.specs.declared.call.Call.{Call}
 use Rattle.rules.specs.declared.figures.Figures.{Figures}
 use Rattle.rules.proofs.Fitting.{pass_weaker}
 use Rattle.rules.proofs.Stepping.{step_done, step_late}
-use Rattle.day.specs.Calls.{Carried, SoldOn, early_refusal}
+use Rattle.day.specs.Calls.{Carried, Done, SoldOn, early_refusal}
 
-pub carried_step : (c : Call) (s : State) (leaves : Order → Option Row) (f : Figures) (report : List Row) (n : Numbers) (r : Result ℕ Refusal) (t : State) (reported : List Row) (m : Numbers) → early_refusal s c ≡ None → rows_by leaves s.book ≡ rows_of s c → length (rows_of s c) ≡ reply_of s c → record { figures = f; book = stays_by leaves s.book } ≡ after_call s c → Carried leaves f s report n r t reported m → Step c s report n r t reported m
-carried_step c s leaves f report n (Ok k) t reported m early rows reply after h =
+-- a call whose rows were reported and posted, or for which there was no room
+pub done_step : (c : Call) (s after : State) (rows report : List Row) (n : Numbers) (r : Result ℕ Refusal) (t : State) (reported : List Row) (m : Numbers) → early_refusal s c ≡ None → rows ≡ rows_of s c → length (rows_of s c) ≡ reply_of s c → after ≡ after_call s c → Done rows (λ x. x ≡ after) s report n r t reported m → Step c s report n r t reported m
+done_step c s after rows report n (Ok k) t reported m early same reply is h =
     step_done c s report reported n m k t early
-    (sym (ap (λ l. room_refusal l (length report) n.places) rows) ∙ h.0)
-    (h.1 ∙ ap length rows ∙ reply)
-    (h.3 ∙ after)
-    (h.2 ∙ ap (λ l. l ++ drop (length l) report) rows)
-    (subst (λ (l : List Row). PostedOnce n (fills_of l) m) rows h.4)
-carried_step c s leaves f report n (Err e) t reported m early rows reply after h =
-    step_late c s report reported n m e t early (sym (ap (λ l. room_refusal l (length report) n.places) rows) ∙ h.0) h.1 h.2 h.3
+    (sym (ap (λ l. room_refusal l (length report) n.places) same) ∙ h.0)
+    (h.1 ∙ ap length same ∙ reply)
+    (h.3 ∙ is)
+    (h.2 ∙ ap (λ l. l ++ drop (length l) report) same)
+    (subst (λ (l : List Row). PostedOnce n (fills_of l) m) same h.4)
+done_step c s after rows report n (Err e) t reported m early same reply is h =
+    step_late c s report reported n m e t early (sym (ap (λ l. room_refusal l (length report) n.places) same) ∙ h.0) h.1 h.2 h.3
 
 -- the orders that stay fit figures that ask no more of them
 pub stays_fit : (f g : Figures) (leaves : Order → Option Row) (xs : List Order) → ((o : Order) → order_fits f o ≡ true → order_fits g o ≡ true) → list_all (order_fits f) xs ≡ true → list_all (order_fits g) (stays_by leaves xs) ≡ true
@@ -47,15 +48,3 @@ sold_done sale s leaves report n k t u reported m rows stays h e = (
       ∙ ap (λ (xs : List Order). record { figures = after_round_lot sale s.figures; book = map (elect sale.price) xs }) stays,
   subst (λ (l : List Row). PostedOnce n (fills_of l) m) rows h.4,
 )
-
--- an opening or a trade, from the sale that it gives
-pub sold_step : (c : Call) (sale : RoundLot) (s : State) (report : List Row) (n : Numbers) (r : Result ℕ Refusal) (t : State) (reported : List Row) (m : Numbers) → early_refusal s c ≡ None → sale_rows sale s.book ≡ rows_of s c → length (rows_of s c) ≡ reply_of s c → record { figures = after_round_lot sale s.figures; book = after_sale sale s.book } ≡ after_call s c → SoldOn sale s report n r t reported m → Step c s report n r t reported m
-sold_step c sale s report n (Ok k) t reported m early rows reply after h =
-    step_done c s report reported n m k t early
-    (sym (ap (λ l. room_refusal l (length report) n.places) rows) ∙ h.0)
-    (h.1 ∙ ap length rows ∙ reply)
-    (h.3 ∙ after)
-    (h.2 ∙ ap (λ l. l ++ drop (length l) report) rows)
-    (subst (λ (l : List Row). PostedOnce n (fills_of l) m) rows h.4)
-sold_step c sale s report n (Err e) t reported m early rows reply after h =
-    step_late c s report reported n m e t early (sym (ap (λ l. room_refusal l (length report) n.places) rows) ∙ h.0) h.1 h.2 h.3

@@ -60,6 +60,6 @@ cancel_stays n (x ∷ xs) =
 -- what fits a day goes on fitting it, whether a pass was carried out or not
 pub settled_fit : (p : Order → Bool) (leaves : Order → Option Row) (before : Book) (report : List Row) (n : Numbers) (r : Result ℕ Refusal) (after : Book) (reported : List Row) (m : Numbers) → Settled leaves before report n r after reported m → list_all p (orders_of before) ≡ true → (list_all p (orders_of after) ≡ true) × (after.unit ≡ before.unit)
 settled_fit p leaves before report n (Ok k) after reported m h fits =
-    (ap (list_all p) h.3 ∙ pass_kept p (λ o. not (is_some (leaves o))) (orders_of before) fits, h.4)
+    (ap (list_all p) h.3.0 ∙ pass_kept p (λ o. not (is_some (leaves o))) (orders_of before) fits, h.3.1)
 settled_fit p leaves before report n (Err e) after reported m h fits =
     (ap (λ (b : Book). list_all p (orders_of b)) h.1 ∙ fits, ap (λ (b : Book). b.unit) h.1)

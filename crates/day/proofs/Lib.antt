@@ -1,3 +1,4 @@
+pub mod Answering
 pub mod Joining
 pub mod Postings
 pub mod Carrying

@@ -1,5 +1,5 @@
 -- Rows posted one after another.
-use Rattle.std.proofs.Common.{◌≡◌, ℕ, ◌+◌, ◌-◌, ◌<◌, ◌≤◌, Bool, true, false, cond, not, ◌||◌, ltb, List, [], ◌∷◌, ◌++◌, length, get_or, take, drop, Some, None, Ok, Err, Option, Result, sym, refl, ap, ◌∙◌, subst, arith, length-append}
+use Rattle.std.proofs.Common.{◌≡◌, ℕ, ◌+◌, ◌-◌, ◌<◌, ◌≤◌, Bool, true, false, cond, not, ◌||◌, ltb, List, [], ◌∷◌, ◌++◌, length, get_or, take, drop, Some, None, Ok, Err, Result, sym, refl, ap, ◌∙◌, subst, arith, length-append}
 use Rattle.std.proofs.lemmas.List.Elements.{filter-append}
 use Rattle.std.proofs.lemmas.List.{take_at, take_more, take-append-drop}
 use Rattle.std.proofs.lemmas.Bool.{cond-true, cond-false, le-ltb}
@@ -8,12 +8,9 @@ use Rattle.market.specs.declared.refusal.Refusal.TheVariants.{LedgerFull, Report
 use Rattle.ledger.specs.Posting.{Numbers, Posted, in_field}
 use Rattle.ledger.proofs.Laws.{moved_both, moved_one, posted_moves}
 use Rattle.book.specs.Books.{Reported}
-use Rattle.book.specs.Orders.{no_order, no_row}
-use Rattle.book.specs.Passes.{before, rows_by}
-use Rattle.book.specs.declared.order.Order.{Order}
-use Rattle.book.proofs.Rows.{rows_append}
+use Rattle.book.specs.Orders.{no_row}
 use Rattle.book.specs.declared.row.Row.{Row}
-use Rattle.rules.specs.Machine.{fills_of, is_fill, is_posted_well, leaves_filled, room_refusal}
+use Rattle.rules.specs.Machine.{fill_of, fills_of, is_fill, is_posted_well, room_refusal}
 use Rattle.rules.specs.Steps.{PostedOnce}
 
 fills_append : (xs ys : List Row) → fills_of (xs ++ ys) ≡ fills_of xs ++ fills_of ys
@@ -26,7 +23,7 @@ fills_more rows i within = ap fills_of (take_more rows i no_row within) ∙ fill
 pub posted_more : (rows : List Row) (i : ℕ) (a b c : Numbers) → i < length rows → PostedOnce a (fills_of (take i rows)) b → PostedOnce b (fills_of (get_or rows i no_row ∷ [])) c → PostedOnce a (fills_of (take (i + 1) rows)) c
 posted_more rows i a b c within h k =
     subst (λ (l : List Row). PostedOnce a l c) (sym (fills_more rows i within))
-    (moved_both (λ r. r.side) (λ r. r.shares) (λ r. r.price) a b c (fills_of (take i rows)) (fills_of (get_or rows i no_row ∷ [])) h k)
+    (moved_both fill_of a b c (fills_of (take i rows)) (fills_of (get_or rows i no_row ∷ [])) h k)
 
 -- the places that the rows so far have left are enough for the next
 pub room_more : (rows : List Row) (i : ℕ) (a b : Numbers) → i < length rows → length (fills_of rows) ≤ a.places → PostedOnce a (fills_of (take i rows)) b → length (fills_of (get_or rows i no_row ∷ [])) ≤ b.places
@@ -42,25 +39,12 @@ well true f e h = h
 well false f e h = let z : ◌≡◌ {A = ℕ} 0 1 = cc in absurd (omega arith)
 
 -- a fill that a ledger with a place takes
-pub fill_posted : (row : Row) (before after : Numbers) (r : Result (Unit {0}) Refusal) → is_fill row.mark ≡ true → is_posted_well row ≡ true → length (fills_of (row ∷ [])) ≤ before.places → Posted row.side row.shares row.price before r after → PostedOnce before (fills_of (row ∷ [])) after
+pub fill_posted : (row : Row) (before after : Numbers) (r : Result (Unit {0}) Refusal) → is_fill row.mark ≡ true → is_posted_well row ≡ true → length (fills_of (row ∷ [])) ≤ before.places → Posted (fill_of row) before r after → PostedOnce before (fills_of (row ∷ [])) after
 fill_posted row before after r fill good room h =
     let one = cond-true (is_fill row.mark) (row ∷ []) [] fill in
     let some : 0 < before.places = omega (arith, ap length one, room) in
     subst (λ (l : List Row). PostedOnce before l after) (sym one)
-    (moved_one (λ r. r.side) (λ r. r.shares) (λ r. r.price) row before after (posted_moves row.side row.shares row.price before after r h (well (is_fill row.mark) (in_field row.shares row.price) fill good) some) some)
-
--- the posted rows of a pass, order by order
-filled_one : (r : Option Row) → length (fills_of (before r [])) ≡ cond (leaves_filled r) 1 0
-filled_one None = refl
-filled_one (Some r) = elim (is_fill r.mark) as (λ b. length (cond b (r ∷ []) []) ≡ cond b 1 0) [ true ↦ refl | false ↦ refl ]
-
-pub filled_more : (f : Order → Option Row) (xs : List Order) (i n m : ℕ) (b : Bool) → i < length xs → b ≡ leaves_filled (f (get_or xs i no_order)) → n ≡ length (fills_of (rows_by f (take i xs))) → m ≡ n + cond b 1 0 → m ≡ length (fills_of (rows_by f (take (i + 1) xs)))
-filled_more f xs i n m b within e at is =
-    let x = get_or xs i no_order in
-    let grown = ap (λ l. length (fills_of (rows_by f l))) (take_more xs i no_order within) in
-    let split = ap (λ l. length (fills_of l)) (rows_append f (take i xs) (x ∷ [])) ∙ ap length (fills_append (rows_by f (take i xs)) (before (f x) [])) ∙ length-append (fills_of (rows_by f (take i xs))) (fills_of (before (f x) [])) in
-    let uses : Bool → ℕ = λ t. cond t 1 0 in
-    omega (arith, grown, split, filled_one (f x), ap uses e)
+    (moved_one fill_of row before after (posted_moves (fill_of row) before after r h (well (is_fill row.mark) (in_field row.shares row.price) fill good) some) some)
 
 -- rows that were reported stand at the front
 pub reported_front : (rows report after : List Row) (n : ℕ) (r : Result ℕ Refusal) → Reported rows report r after → n ≡ length rows → n ≤ length report → (take (n - 0) after ≡ rows) × (after ≡ rows ++ drop (length rows) report)

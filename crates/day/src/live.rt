@@ -5,7 +5,6 @@ ghost use Rattle.book.specs.Books.{orders_of};
 ghost use Rattle.rules.specs.States.{figures_fit, order_fits};
 
 use book::book::Book;
-use ledger::posting::Ledger;
 use rules::figures::Figures;
 
 // The orders and the figures. Every order fits the figures, and the book is for the day's unit.
@@ -20,7 +19,7 @@ pub struct Live {
 
 // A day owns its ledger, so that nobody else posts to it.
 #[derive(Drop)]
-pub struct Day<L: Ledger> {
+pub struct Day<L> {
     pub(crate) live: Live,
     pub(crate) ledger: L,
 }

@@ -1,5 +1,5 @@
 // The making of a day, and its ledger.
-ghost use Rattle.std.specs.Prelude.{◌≡◌, ℤ};
+ghost use Rattle.std.specs.Prelude.{◌≡◌};
 ghost use Rattle.day.specs.Days.{Made, MadeClosed, fresh_figures, state_of};
 
 use crate::live::{Day, Live};
@@ -8,43 +8,46 @@ use book::quote::Quote;
 use ledger::posting::Ledger;
 use market::limits::{is_price, is_tag, is_unit};
 use market::refusal::Refusal;
+use rules::call::NewDay;
 use rules::figures::{Figures, Phase};
 
 // The figures of a new day.
-fn fresh_figures(unit: u32, prior_close: u32, tag: u32) -> Figures
-    ensures { result ≡ fresh_figures unit prior_close tag }
+fn fresh_figures(new: NewDay) -> Figures
+    ensures { result ≡ fresh_figures new }
 {
     Figures {
         phase: Phase::Unopened,
-        unit,
-        tag,
+        unit: new.unit,
+        tag: new.tag,
         time: 0,
-        quote: Quote {
-            bid: None,
-            offer: None,
-        },
-        latest: prior_close,
+        quote: Quote::default(),
+        latest: new.prior_close,
         rising: false,
         accepted: 0,
     }
 }
 
 impl Live {
-    // A new day's orders and figures, in the memory of a reserved book; or a closed day, where a field is out of range.
-    fn new(book: Book, unit: u32, prior_close: u32, tag: u32) -> (Live, Result<(), Refusal>)
-        ensures made { Made unit prior_close tag result.1 (state_of result.0) }
+    // A new day's orders and figures, in the memory of a reserved book; or a closed day, where a field is out of range. A
+    // refused making still has a day to give, as the rules say, so the answer stands beside it and not in its place.
+    fn new(book: Book, new: NewDay) -> (Live, Result<(), Refusal>)
+        ensures made { Made new result.1 (state_of result.0) }
         ensures closed { MadeClosed result.1 (state_of result.0) }
     {
         let mut book = book;
-        if is_unit(unit) && is_price(prior_close) && is_tag(tag) {
-            let _ = book.clear_for(unit);
-            let figures = fresh_figures(unit, prior_close, tag);
+        if is_unit(new.unit) && is_price(new.prior_close) && is_tag(new.tag) {
+            let _ = book.clear_for(new.unit);
+            let figures = fresh_figures(new);
             (Live { book, figures }, Ok(()))
         } else {
             let _ = book.clear_for(100);
             let figures = Figures {
                 phase: Phase::Closed,
-                ..fresh_figures(100, 1, 1)
+                ..fresh_figures(NewDay {
+                    unit: 100,
+                    prior_close: 1,
+                    tag: 1,
+                })
             };
             (Live { book, figures }, Err(Refusal::BadField))
         }
@@ -53,18 +56,12 @@ impl Live {
 
 impl<L: Ledger> Day<L> {
     // Makes a day above a ledger. A refused making gives a closed day that still holds the ledger, untouched.
-    pub fn new(
-        book: Book,
-        ledger: L,
-        unit: u32,
-        prior_close: u32,
-        tag: u32,
-    ) -> (Day<L>, Result<(), Refusal>)
-        ensures made { Made unit prior_close tag result.1 (state_of result.0.live) }
+    pub fn new(book: Book, ledger: L, new: NewDay) -> (Day<L>, Result<(), Refusal>)
+        ensures made { Made new result.1 (state_of result.0.live) }
         ensures closed { MadeClosed result.1 (state_of result.0.live) }
         ensures ledger { result.0.ledger ≡ ledger }
     {
-        let (live, answer) = Live::new(book, unit, prior_close, tag);
+        let (live, answer) = Live::new(book, new);
         (Day { live, ledger }, answer)
     }
 

@@ -1,18 +1,17 @@
 // The calls that bring and take away orders, the quote, and the question by number.
-ghost use Rattle.std.specs.Prelude.{◌≡◌, ◌≤◌, [], if◌then◌else◌, Some, None, Ok, nat_eq};
+ghost use Rattle.std.specs.Prelude.{◌≡◌, ◌≤◌, [], if◌then◌else◌, Some, None, Ok, nat_eq, ok_or};
 ghost use Rattle.market.specs.declared.mark.Mark.TheVariants.{Lapse};
-ghost use Rattle.market.specs.declared.refusal.Refusal.TheVariants.{DayClosed};
-ghost use Rattle.ledger.specs.Posting.{numbers};
+ghost use Rattle.market.specs.declared.refusal.Refusal.TheVariants.{BadField};
 ghost use Rattle.book.specs.Orders.{find_in};
 ghost use Rattle.book.specs.Sales.{row_of};
-ghost use Rattle.rules.specs.Machine.{after_call, cancel_refusal, field_refusal, kind_of, new_order, order_refusal, price_or_none, quote_of, quote_refusal, side_of};
-ghost use Rattle.rules.specs.States.{is_closed};
-ghost use Rattle.rules.specs.Steps.{Step, quiet};
+ghost use Rattle.rules.specs.Machine.{after_call, new_order, price_or_none, quote_refusal};
+ghost use Rattle.rules.specs.Steps.{quiet};
 ghost use Rattle.rules.specs.declared.call.Call.TheVariants.{Cancel, Order as OrderCall, Quote as QuoteCall};
 ghost use Rattle.day.specs.Calls.{Admitted, MayCancel};
-ghost use Rattle.day.specs.Days.{state_of};
+ghost use Rattle.day.specs.Days.{Stepped, state_of};
 
 use crate::live::{Day, Live};
+use crate::refusals::is_closed;
 use book::lawful::is_lawful;
 use book::order::Order;
 use book::pass::Pass;
@@ -22,31 +21,18 @@ use ledger::posting::Ledger;
 use market::kind::Kind;
 use market::limits::{has_accepted_room, has_live_room};
 use market::mark::Mark;
-use market::numbered::Numbered;
 use market::refusal::Refusal;
 use market::side::Side;
 use rules::call::{NewOrder, NewQuote};
-use rules::figures::{Figures, Phase};
+use rules::figures::Figures;
 
-fn side_of(n: u32) -> Option<Side>
-    ensures { result ≡ side_of n }
-{
-    Side::from_number(n)
-}
-
-fn kind_of(n: u32) -> Option<Kind>
-    ensures { result ≡ kind_of n }
-{
-    Kind::from_number(n)
-}
-
-// The order that an order call makes, where its fields are in range.
-fn new_order(figures: &Figures, new: NewOrder) -> Option<Order>
+// The order that an order call makes, or 4 where its fields are out of range.
+fn new_order(figures: &Figures, new: NewOrder) -> Result<Order, Refusal>
     requires { figures.now.accepted ≤ 60000 }
-    ensures { result ≡ new_order figures.now new }
+    ensures { result ≡ ok_or (new_order figures.now new) BadField }
 {
-    let side = side_of(new.side)?;
-    let kind = kind_of(new.kind)?;
+    let side = Side::try_from(new.side)?;
+    let kind = Kind::try_from(new.kind)?;
     let order = Order {
         number: figures.accepted + 1,
         side,
@@ -59,9 +45,9 @@ fn new_order(figures: &Figures, new: NewOrder) -> Option<Order>
         in_hand: false,
     };
     if is_lawful(figures.unit, &order) {
-        Some(order)
+        Ok(order)
     } else {
-        None
+        Err(Refusal::BadField)
     }
 }
 
@@ -77,12 +63,10 @@ impl Live {
     fn admit(&self, new: NewOrder) -> Result<Order, Refusal>
         ensures { Admitted (state_of self.now) new result }
     {
-        if let Phase::Closed = self.figures.phase {
+        if is_closed(self.figures.phase) {
             return Err(Refusal::DayClosed);
         }
-        let Some(order) = new_order(&self.figures, new) else {
-            return Err(Refusal::BadField);
-        };
+        let order = new_order(&self.figures, new)?;
         if !has_accepted_room(self.figures.accepted) {
             return Err(Refusal::AcceptedFull);
         }
@@ -108,7 +92,7 @@ impl Live {
     fn may_cancel(&self, number: u32) -> Result<Order, Refusal>
         ensures { MayCancel (state_of self.now) number result }
     {
-        if let Phase::Closed = self.figures.phase {
+        if is_closed(self.figures.phase) {
             return Err(Refusal::DayClosed);
         }
         match self.book.find(number) {
@@ -152,13 +136,7 @@ impl Pass for CancelPass {
 
     fn row(&self, order: &Order) -> Option<Row> {
         if order.number == self.number {
-            Some(Row {
-                number: order.number,
-                side: order.side,
-                shares: order.shares,
-                price: 0,
-                mark: Mark::Lapse,
-            })
+            Some(order.row(0, Mark::Lapse))
         } else {
             None
         }
@@ -167,57 +145,30 @@ impl Pass for CancelPass {
 
 impl<L: Ledger> Day<L> {
     // Enters an order, and answers its number. A price that the kind does not use is 0.
-    pub fn order(
-        &mut self,
-        side: u32,
-        kind: u32,
-        quantity: u32,
-        limit: u32,
-        stop: u32,
-    ) -> Result<u32, Refusal>
-        ensures { Step (OrderCall (record { side = side; kind = kind; shares = quantity; limit = limit; stop = stop })) (state_of self.old.live) [] (numbers L.shares L.money L.places self.old.ledger) result (state_of self.new.live) [] (numbers L.shares L.money L.places self.new.ledger) }
+    pub fn order(&mut self, new: NewOrder) -> Result<u32, Refusal>
+        ensures { Stepped L.numbers (OrderCall new) self.old [] result self.new [] }
     {
-        let new = NewOrder {
-            side,
-            kind,
-            shares: quantity,
-            limit,
-            stop,
-        };
-        match self.live.admit(new) {
-            Ok(order) => {
-                self.live.join(new, order);
-                Ok(order.number)
-            }
-            Err(refusal) => Err(refusal),
-        }
+        let order = self.live.admit(new)?;
+        self.live.join(new, order);
+        Ok(order.number)
     }
 
     // Takes a waiting order away, and answers its shares.
     pub fn cancel(&mut self, number: u32) -> Result<u32, Refusal>
-        ensures { Step (Cancel number) (state_of self.old.live) [] (numbers L.shares L.money L.places self.old.ledger) result (state_of self.new.live) [] (numbers L.shares L.money L.places self.new.ledger) }
+        ensures { Stepped L.numbers (Cancel number) self.old [] result self.new [] }
     {
-        match self.live.may_cancel(number) {
-            Ok(order) => {
-                self.live.take_away(number);
-                Ok(order.shares)
-            }
-            Err(refusal) => Err(refusal),
-        }
+        let order = self.live.may_cancel(number)?;
+        self.live.take_away(number);
+        Ok(order.shares)
     }
 
     // Sets bid and offer; a missing one is 0.
-    pub fn quote(&mut self, bid: u32, offer: u32) -> Result<(), Refusal>
-        ensures { Step (QuoteCall (record { bid = bid; offer = offer })) (state_of self.old.live) [] (numbers L.shares L.money L.places self.old.ledger) (quiet result) (state_of self.new.live) [] (numbers L.shares L.money L.places self.new.ledger) }
+    pub fn quote(&mut self, new: NewQuote) -> Result<(), Refusal>
+        ensures { Stepped L.numbers (QuoteCall new) self.old [] (quiet result) self.new [] }
     {
-        let new = NewQuote { bid, offer };
-        match self.live.refuses_quote(new) {
-            Some(refusal) => Err(refusal),
-            None => {
-                self.live.set_quote(new);
-                Ok(())
-            }
-        }
+        self.live.may_quote(new)?;
+        self.live.set_quote(new);
+        Ok(())
     }
 
     // The live order with a number, or none.

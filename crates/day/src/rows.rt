@@ -2,19 +2,18 @@
 ghost use Rattle.std.specs.Prelude.{◌≡◌, true, map, None};
 ghost use Rattle.std.specs.List.{list_all};
 ghost use Rattle.market.specs.Limits.{is_price};
-ghost use Rattle.ledger.specs.Posting.{numbers};
 ghost use Rattle.book.specs.Books.{orders_of};
 ghost use Rattle.book.specs.Passes.{rows_by, stays_by};
 ghost use Rattle.book.specs.Sales.{elect as elect_at};
 ghost use Rattle.rules.specs.Machine.{is_posted_well, round_lot, timer_quote};
 ghost use Rattle.rules.specs.States.{figures_fit, is_open, order_fits};
-ghost use Rattle.rules.specs.Steps.{Step};
 ghost use Rattle.rules.specs.declared.call.Call.TheVariants.{Clock, Close, Opening, Trade};
 ghost use Rattle.rules.specs.declared.figures.Phase.TheVariants.{Open};
 ghost use Rattle.day.specs.Calls.{Carried, SoldOn, early_refusal};
-ghost use Rattle.day.specs.Days.{state_of};
+ghost use Rattle.day.specs.Days.{Stepped, state_of};
 
 use crate::live::{Day, Live};
+use crate::refusals::is_closed;
 use crate::settling::settle;
 use book::pass::{ClosePass, Pass, TimerPass};
 use book::quote::Quote;
@@ -40,10 +39,7 @@ fn round_lot(figures: Figures, opening: bool, new: NewSale) -> RoundLot
 fn is_open(phase: Phase) -> bool
     ensures { result ≡ is_open phase }
 {
-    match phase {
-        Phase::Open => true,
-        Phase::Unopened | Phase::Closed => false,
-    }
+    phase == Phase::Open
 }
 
 // The quote at which the timer fills: none before the opening.
@@ -53,10 +49,7 @@ fn timer_quote(figures: Figures) -> Quote
     if is_open(figures.phase) {
         figures.quote
     } else {
-        Quote {
-            bid: None,
-            offer: None,
-        }
+        Quote::default()
     }
 }
 
@@ -82,7 +75,7 @@ impl<L: Ledger> Day<L> {
         requires fit { figures_fit figures ≡ true }
         requires fits { list_all (order_fits figures) (stays_by (P.leaves pass.now) (orders_of self.old.live.book)) ≡ true }
         requires unit { figures.unit ≡ self.old.live.figures.unit }
-        ensures { Carried (P.leaves pass.now) figures (state_of self.old.live) report.old (numbers L.shares L.money L.places self.old.ledger) result (state_of self.new.live) report.new (numbers L.shares L.money L.places self.new.ledger) }
+        ensures { Carried (P.leaves pass.now) figures (state_of self.old.live) report.old (L.numbers self.old.ledger) result (state_of self.new.live) report.new (L.numbers self.new.ledger) }
     {
         let n = settle(&mut self.live.book, &mut self.ledger, pass, report)?;
         self.live.figures = figures;
@@ -92,7 +85,7 @@ impl<L: Ledger> Day<L> {
     // Closes a day that is not closed.
     fn end(&mut self, report: &mut [Row]) -> Result<usize, Refusal>
         requires { early_refusal (state_of self.old.live) Close ≡ None }
-        ensures { Step Close (state_of self.old.live) report.old (numbers L.shares L.money L.places self.old.ledger) result (state_of self.new.live) report.new (numbers L.shares L.money L.places self.new.ledger) }
+        ensures { Stepped L.numbers Close self.old report.old result self.new report.new }
     {
         let figures = self.live.figures;
         let pass = ClosePass {
@@ -108,18 +101,18 @@ impl<L: Ledger> Day<L> {
 
     // Fills at the quote, and then every order that is left lapses; the day is closed after it.
     pub fn close(&mut self, report: &mut [Row]) -> Result<usize, Refusal>
-        ensures { Step Close (state_of self.old.live) report.old (numbers L.shares L.money L.places self.old.ledger) result (state_of self.new.live) report.new (numbers L.shares L.money L.places self.new.ledger) }
+        ensures { Stepped L.numbers Close self.old report.old result self.new report.new }
     {
-        match self.live.figures.phase {
-            Phase::Closed => Err(Refusal::DayClosed),
-            Phase::Unopened | Phase::Open => self.end(report),
+        if is_closed(self.live.figures.phase) {
+            return Err(Refusal::DayClosed);
         }
+        self.end(report)
     }
 
     // Moves the time of a day that takes it.
     fn tick(&mut self, time: u32, report: &mut [Row]) -> Result<usize, Refusal>
         requires { early_refusal (state_of self.old.live) (Clock time) ≡ None }
-        ensures { Step (Clock time) (state_of self.old.live) report.old (numbers L.shares L.money L.places self.old.ledger) result (state_of self.new.live) report.new (numbers L.shares L.money L.places self.new.ledger) }
+        ensures { Stepped L.numbers (Clock time) self.old report.old result self.new report.new }
     {
         let figures = self.live.figures;
         let quote = timer_quote(figures);
@@ -132,18 +125,16 @@ impl<L: Ledger> Day<L> {
 
     // Moves the time, and in an open day fills the orders that are due then, at the quote.
     pub fn clock(&mut self, time: u32, report: &mut [Row]) -> Result<usize, Refusal>
-        ensures { Step (Clock time) (state_of self.old.live) report.old (numbers L.shares L.money L.places self.old.ledger) result (state_of self.new.live) report.new (numbers L.shares L.money L.places self.new.ledger) }
+        ensures { Stepped L.numbers (Clock time) self.old report.old result self.new report.new }
     {
-        match self.live.refuses_clock(time) {
-            Some(refusal) => Err(refusal),
-            None => self.tick(time, report),
-        }
+        self.live.may_tick(time)?;
+        self.tick(time, report)
     }
 
     // Carries a sale out: its fills, the elections, and its price as the latest.
     fn sell(&mut self, sale: RoundLot, report: &mut [Row]) -> Result<usize, Refusal>
         requires { is_price sale.price ≡ true }
-        ensures { SoldOn sale (state_of self.old.live) report.old (numbers L.shares L.money L.places self.old.ledger) result (state_of self.new.live) report.new (numbers L.shares L.money L.places self.new.ledger) }
+        ensures { SoldOn sale (state_of self.old.live) report.old (L.numbers self.old.ledger) result (state_of self.new.live) report.new (L.numbers self.new.ledger) }
     {
         let pass = self.live.book.sale(sale);
         let after = Figures {
@@ -158,24 +149,18 @@ impl<L: Ledger> Day<L> {
     }
 
     // The first sale of the day, which opens it.
-    pub fn opening(&mut self, price: u32, volume: u32, report: &mut [Row]) -> Result<usize, Refusal>
-        ensures { Step (Opening (record { price = price; volume = volume })) (state_of self.old.live) report.old (numbers L.shares L.money L.places self.old.ledger) result (state_of self.new.live) report.new (numbers L.shares L.money L.places self.new.ledger) }
+    pub fn opening(&mut self, new: NewSale, report: &mut [Row]) -> Result<usize, Refusal>
+        ensures { Stepped L.numbers (Opening new) self.old report.old result self.new report.new }
     {
-        let new = NewSale { price, volume };
-        match self.live.refuses_opening(new) {
-            Some(refusal) => Err(refusal),
-            None => self.sell(round_lot(self.live.figures, true, new), report),
-        }
+        self.live.may_open(new)?;
+        self.sell(round_lot(self.live.figures, true, new), report)
     }
 
     // A sale after the opening.
-    pub fn trade(&mut self, price: u32, volume: u32, report: &mut [Row]) -> Result<usize, Refusal>
-        ensures { Step (Trade (record { price = price; volume = volume })) (state_of self.old.live) report.old (numbers L.shares L.money L.places self.old.ledger) result (state_of self.new.live) report.new (numbers L.shares L.money L.places self.new.ledger) }
+    pub fn trade(&mut self, new: NewSale, report: &mut [Row]) -> Result<usize, Refusal>
+        ensures { Stepped L.numbers (Trade new) self.old report.old result self.new report.new }
     {
-        let new = NewSale { price, volume };
-        match self.live.refuses_trade(new) {
-            Some(refusal) => Err(refusal),
-            None => self.sell(round_lot(self.live.figures, false, new), report),
-        }
+        self.live.may_trade(new)?;
+        self.sell(round_lot(self.live.figures, false, new), report)
     }
 }

@@ -1,10 +1,9 @@
 // A pass carried out: its rows reported and posted, its orders taken out of the book.
 ghost use Rattle.std.specs.Prelude.{◌≡◌, true, length};
 ghost use Rattle.std.specs.List.{list_all};
-ghost use Rattle.ledger.specs.Posting.{numbers};
 ghost use Rattle.book.specs.Books.{orders_of};
 ghost use Rattle.book.specs.Passes.{rows_by};
-ghost use Rattle.rules.specs.Machine.{fills_of, is_posted_well, leaves_filled};
+ghost use Rattle.rules.specs.Machine.{fills_of, is_posted_well};
 ghost use Rattle.day.specs.Calls.{Settled};
 
 use crate::posting::{is_fill, post_rows};
@@ -15,27 +14,15 @@ use book::row::Row;
 use ledger::posting::Ledger;
 use market::refusal::Refusal;
 
-// Whether an order leaves in a pass with a row that is posted.
-fn leaves_filled<P: Pass>(pass: &P, order: &Order) -> bool
-    ensures { result ≡ leaves_filled (P.leaves pass.now order.now) }
-{
-    match pass.row(order) {
-        Some(row) => is_fill(row.mark),
-        None => false,
-    }
-}
-
 // How many rows of a pass are posted.
 fn count_fills<P: Pass>(orders: &[Order], pass: &P) -> usize
     ensures { result ≡ length (fills_of (rows_by (P.leaves pass.now) orders.now)) }
 {
-    let mut n: usize = 0;
-    for order in orders {
-        if leaves_filled(pass, order) {
-            n += 1;
-        }
-    }
-    n
+    orders
+        .iter()
+        .filter_map(|order| pass.row(order))
+        .filter(|row| is_fill(row.mark))
+        .count()
 }
 
 // Carries a pass out, or does nothing at all for want of places in the report (13) or in the ledger (14).
@@ -46,7 +33,7 @@ pub(crate) fn settle<P: Pass, L: Ledger>(
     report: &mut [Row],
 ) -> Result<usize, Refusal>
     requires { list_all is_posted_well (rows_by (P.leaves pass.now) (orders_of book.old)) ≡ true }
-    ensures { Settled (P.leaves pass.now) book.old report.old (numbers L.shares L.money L.places ledger.old) result book.new report.new (numbers L.shares L.money L.places ledger.new) }
+    ensures { Settled (P.leaves pass.now) book.old report.old (L.numbers ledger.old) result book.new report.new (L.numbers ledger.new) }
 {
     let n = book.count(pass);
     if report.len() < n {

@@ -1,4 +1,5 @@
 // Makings, limits, and days of both units.
+use crate::asked::*;
 use book::book::Book;
 use book::row::Row;
 use day::live::Day;
@@ -7,17 +8,13 @@ use ledger::start::Start;
 use ledger::totals::Totals;
 use market::mark::Mark;
 use market::refusal::Refusal;
-use market::side::Side;
 use other_ledgers::no_places::NoPlaces;
 use std::test::Fail;
 
 fn blank() -> Row {
     Row {
-        number: 0,
-        side: Side::Buy,
-        shares: 0,
-        price: 0,
         mark: Mark::Opening,
+        ..Row::blank()
     }
 }
 
@@ -38,11 +35,9 @@ fn makings(rt: HostRuntime) -> Result<(), Fail> {
         let (mut day, answer) = Day::new(
             Book::reserve(rt.alloc())?,
             Totals::new(&start),
-            unit,
-            prior_close,
-            tag,
+            day_of(unit, prior_close, tag),
         );
-        let entered = day.order(1, 1, 1, 0, 0);
+        let entered = day.order(order(1, 1, 1, 0, 0));
         let ledger = day.into_ledger();
         assert_eq!(rt; ledger.shares(), 7);
         assert_eq!(rt; ledger.money(), 9);
@@ -62,18 +57,18 @@ fn makings(rt: HostRuntime) -> Result<(), Fail> {
 fn limits(rt: HostRuntime) -> Result<(), Fail> {
     let (start, _) = Start::new(0, 0);
     let book = Book::reserve(rt.alloc())?;
-    let (mut day, _) = Day::new(book, Totals::new(&start), 10, 200_000, 1);
-    assert_eq!(rt; day.order(1, 1, 10, 0, 0), Err(Refusal::BadField));
+    let (mut day, _) = Day::new(book, Totals::new(&start), day_of(10, 200_000, 1));
+    assert_eq!(rt; day.order(order(1, 1, 10, 0, 0)), Err(Refusal::BadField));
     for number in 1..513 {
-        assert_eq!(rt; day.order(1, 1, 9, 0, 0), Ok(number));
+        assert_eq!(rt; day.order(order(1, 1, 9, 0, 0)), Ok(number));
     }
-    assert_eq!(rt; day.order(1, 1, 9, 0, 0), Err(Refusal::BookFull));
+    assert_eq!(rt; day.order(order(1, 1, 9, 0, 0)), Err(Refusal::BookFull));
     assert_eq!(rt; day.cancel(1), Ok(9));
     for number in 513..60_001 {
-        assert_eq!(rt; day.order(1, 1, 9, 0, 0), Ok(number));
+        assert_eq!(rt; day.order(order(1, 1, 9, 0, 0)), Ok(number));
         assert_eq!(rt; day.cancel(number), Ok(9));
     }
-    assert_eq!(rt; day.order(1, 1, 9, 0, 0), Err(Refusal::AcceptedFull));
+    assert_eq!(rt; day.order(order(1, 1, 9, 0, 0)), Err(Refusal::AcceptedFull));
     Ok(())
 }
 
@@ -81,11 +76,11 @@ fn limits(rt: HostRuntime) -> Result<(), Fail> {
 #[test]
 fn without_places(rt: HostRuntime) -> Result<(), Fail> {
     let book = Book::reserve(rt.alloc())?;
-    let (mut day, _) = Day::new(book, NoPlaces {}, 100, 200_000, 1);
+    let (mut day, _) = Day::new(book, NoPlaces {}, day_of(100, 200_000, 1));
     let mut rows = [blank(); 2];
-    assert_eq!(rt; day.order(1, 1, 9, 0, 0), Ok(1));
+    assert_eq!(rt; day.order(order(1, 1, 9, 0, 0)), Ok(1));
     assert_eq!(rt;
-        day.opening(200_000, 100, &mut rows),
+        day.opening(sale(200_000, 100), &mut rows),
         Err(Refusal::LedgerFull)
     );
     assert_eq!(rt; day.close(&mut rows), Ok(1));
@@ -98,19 +93,19 @@ fn without_places(rt: HostRuntime) -> Result<(), Fail> {
 #[test]
 fn wanting_places(rt: HostRuntime) -> Result<(), Fail> {
     let book = Book::reserve(rt.alloc())?;
-    let (mut day, _) = Day::new(book, NoPlaces {}, 100, 200_000, 1);
+    let (mut day, _) = Day::new(book, NoPlaces {}, day_of(100, 200_000, 1));
     let mut one = [blank()];
     let short = Err(Refusal::ReportFull);
     let full = Err(Refusal::LedgerFull);
-    assert_eq!(rt; day.order(1, 1, 9, 0, 0), Ok(1));
-    assert_eq!(rt; day.opening(200_000, 100, &mut [][..]), short);
-    assert_eq!(rt; day.opening(200_000, 100, &mut one), full);
+    assert_eq!(rt; day.order(order(1, 1, 9, 0, 0)), Ok(1));
+    assert_eq!(rt; day.opening(sale(200_000, 100), &mut [][..]), short);
+    assert_eq!(rt; day.opening(sale(200_000, 100), &mut one), full);
     assert_eq!(rt; day.cancel(1), Ok(9));
-    assert_eq!(rt; day.opening(200_000, 100, &mut [][..]), Ok(0));
-    assert_eq!(rt; day.order(1, 1, 9, 0, 0), Ok(2));
-    assert_eq!(rt; day.trade(200_000, 100, &mut [][..]), short);
-    assert_eq!(rt; day.trade(200_000, 100, &mut one), full);
-    assert_eq!(rt; day.quote(0, 200_100), Ok(()));
+    assert_eq!(rt; day.opening(sale(200_000, 100), &mut [][..]), Ok(0));
+    assert_eq!(rt; day.order(order(1, 1, 9, 0, 0)), Ok(2));
+    assert_eq!(rt; day.trade(sale(200_000, 100), &mut [][..]), short);
+    assert_eq!(rt; day.trade(sale(200_000, 100), &mut one), full);
+    assert_eq!(rt; day.quote(quote(0, 200_100)), Ok(()));
     assert_eq!(rt; day.clock(30_001, &mut [][..]), short);
     assert_eq!(rt; day.clock(30_001, &mut one), full);
     assert_eq!(rt; day.clock(30_000, &mut one), Ok(0));
@@ -126,13 +121,13 @@ fn wanting_places(rt: HostRuntime) -> Result<(), Fail> {
 fn timer_and_question(rt: HostRuntime) -> Result<(), Fail> {
     let (start, _) = Start::new(0, 0);
     let book = Book::reserve(rt.alloc())?;
-    let (mut day, _) = Day::new(book, Totals::new(&start), 100, 200_000, 1);
+    let (mut day, _) = Day::new(book, Totals::new(&start), day_of(100, 200_000, 1));
     let mut rows = [blank(); 2];
     assert_eq!(rt; day.clock(1_000, &mut rows), Ok(0));
-    assert_eq!(rt; day.order(1, 1, 70, 0, 0), Ok(1));
-    assert_eq!(rt; day.opening(200_000, 100, &mut rows), Ok(1));
-    assert_eq!(rt; day.order(1, 1, 30, 0, 0), Ok(2));
-    assert_eq!(rt; day.quote(0, 200_100), Ok(()));
+    assert_eq!(rt; day.order(order(1, 1, 70, 0, 0)), Ok(1));
+    assert_eq!(rt; day.opening(sale(200_000, 100), &mut rows), Ok(1));
+    assert_eq!(rt; day.order(order(1, 1, 30, 0, 0)), Ok(2));
+    assert_eq!(rt; day.quote(quote(0, 200_100)), Ok(()));
     assert_eq!(rt; day.clock(31_000, &mut rows), Ok(0));
     let order = day.find(2).ok_or("no order 2")?;
     assert_eq!(rt; order.shares, 30);

@@ -8,7 +8,8 @@ use Rattle.market.specs.declared.kind.Kind.{Kind}
 use Rattle.market.specs.declared.side.Side.{Side}
 use Rattle.market.specs.declared.refusal.Refusal.TheVariants.{BadField, QuoteCrossed}
 use Rattle.book.specs.Orders.{is_new, lawful}
-use Rattle.book.specs.Passes.{before, rows_by}
+use Rattle.std.specs.List.{cons_option}
+use Rattle.book.specs.Passes.{rows_by}
 use Rattle.book.specs.declared.row.Row.{Row}
 use Rattle.book.specs.declared.order.Order.{Order}
 use Rattle.rules.specs.Machine.{by_kind, by_side, is_posted_well, kind_of, new_order, order_of, price_or_none, quote_of, quote_refusal, side_of, with_accepted, with_quote}
@@ -100,7 +101,7 @@ abbrev pub row_well : Option Row → Bool
 row_well None = true
 row_well (Some r) = is_posted_well r
 
-well_before : (r : Option Row) (rows : List Row) → row_well r ≡ true → list_all is_posted_well rows ≡ true → list_all is_posted_well (before r rows) ≡ true
+well_before : (r : Option Row) (rows : List Row) → row_well r ≡ true → list_all is_posted_well rows ≡ true → list_all is_posted_well (cons_option r rows) ≡ true
 well_before None rows h k = k
 well_before (Some r) rows h k = and_from (is_posted_well r) (list_all is_posted_well rows) h k
 

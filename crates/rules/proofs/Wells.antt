@@ -4,7 +4,7 @@ use Rattle.std.specs.List.{list_all}
 use Rattle.std.proofs.lemmas.Bool.{and_parts, and_from, ltb-false}
 use Rattle.std.proofs.lemmas.Bool.Decides.{nat_tests}
 use Rattle.market.specs.Limits.{is_postable, is_price, is_tag, is_time, is_unit, is_volume}
-use Rattle.market.specs.Terms.{market_side}
+use Rattle.market.specs.Terms.{has_stop, market_side}
 use Rattle.market.specs.declared.kind.Kind.{Kind}
 use Rattle.market.specs.declared.kind.Kind.TheVariants.{Market, Limit, Stop, StopLimit}
 use Rattle.market.specs.declared.mark.Mark.{Mark}
@@ -14,8 +14,9 @@ use Rattle.market.specs.declared.side.Side.TheVariants.{Buy, SellLong, SellShort
 use Rattle.market.specs.declared.refusal.Refusal.{Refusal}
 use Rattle.market.specs.declared.refusal.Refusal.TheVariants.{BadField, DayClosed, DayOpen, DayUnopened, TimeEarlier}
 use Rattle.ledger.specs.Posting.{in_field}
-use Rattle.book.specs.Passes.{before, rows_by, stays_by}
-use Rattle.book.specs.Orders.{has_stop, lawful}
+use Rattle.std.specs.List.{cons_option}
+use Rattle.book.specs.Passes.{rows_by, stays_by}
+use Rattle.book.specs.Orders.{lawful}
 use Rattle.book.specs.Quotes.{close_row, counts_from, or_lapse, quote_row, quote_row_of, row_at, timer_row}
 use Rattle.book.specs.Sales.{elect, filled, is_market, reaches_stop, row_of, sale_mark, sale_row}
 use Rattle.book.specs.declared.order.Order.{Order}
@@ -139,7 +140,7 @@ none_rows : (f : Order → Option Row) → ((o : Order) → f o ≡ None) → (x
 none_rows f none [] = (refl, refl)
 none_rows f none (x ∷ xs) =
     let rest = none_rows f none xs in (
-      ap (λ r. before r (rows_by f xs)) (none x) ∙ rest.0,
+      ap (λ r. cons_option r (rows_by f xs)) (none x) ∙ rest.0,
       ap (λ r. cond (not (is_some r)) (x ∷ stays_by f xs) (stays_by f xs)) (none x) ∙ ap (λ l. x ∷ l) rest.1,
     )
 

@@ -1,5 +1,6 @@
 -- The state machine of a day: for each call why it is refused, its rows, its answer and the state after it.
 use Rattle.std.specs.Prelude.{ℕ, ◌+◌, Bool, true, false, cond, not, ◌&&◌, ◌||◌, List, [], ◌∷◌, ◌++◌, length, Some, None, filter, Option, ◌==◌, nat_lt}
+use Rattle.std.specs.List.{find}
 use Rattle.market.specs.Limits.{has_accepted_room, has_live_room, is_price, is_time, is_volume}
 use Rattle.market.specs.Terms.{kind_number, side_number}
 use Rattle.market.specs.declared.kind.Kind.{Kind}
@@ -11,6 +12,7 @@ use Rattle.market.specs.declared.refusal.Refusal.TheVariants.{DayClosed, DayUnop
 use Rattle.market.specs.declared.side.Side.{Side}
 use Rattle.market.specs.declared.side.Side.TheVariants.{Buy, SellLong, SellShort}
 use Rattle.ledger.specs.Posting.{in_field}
+use Rattle.ledger.specs.declared.fill.Fill.{Fill}
 use Rattle.book.specs.Orders.{find_in, lawful}
 use Rattle.book.specs.Passes.{rows_by, stays_by}
 use Rattle.book.specs.Quotes.{close_row, timer_row}
@@ -29,16 +31,12 @@ use Rattle.rules.specs.declared.figures.Figures.{Figures}
 use Rattle.rules.specs.declared.figures.Phase.{Phase}
 use Rattle.rules.specs.declared.figures.Phase.TheVariants.{Open, Closed}
 
--- the term of a list that has this number, if any
-abbrev pub with_number : {X : Type 0} → (X → ℕ) → List X → ℕ → Option X
-with_number number [] n = None
-with_number number (x ∷ xs) n = cond (number x == n) (Some x) (with_number number xs n)
-
+-- the side and the kind that have a number, if any
 abbrev pub side_of : ℕ → Option Side
-side_of n = with_number side_number (Buy ∷ SellLong ∷ SellShort ∷ []) n
+side_of n = find (λ side. side_number side == n) (Buy ∷ SellLong ∷ SellShort ∷ [])
 
 abbrev pub kind_of : ℕ → Option Kind
-kind_of n = with_number kind_number (Market ∷ Limit ∷ Stop ∷ StopLimit ∷ []) n
+kind_of n = find (λ kind. kind_number kind == n) (Market ∷ Limit ∷ Stop ∷ StopLimit ∷ [])
 
 -- the order that an order call makes, where its side and kind are known and it is lawful
 abbrev pub order_of : Figures → ℕ → ℕ → ℕ → Side → Kind → Order
@@ -206,14 +204,13 @@ after_call s Close =
       book = stays_by (close_row (is_open s.figures.phase) s.figures.quote) s.book;
     }
 
+-- what a row says to a ledger
+abbrev pub fill_of : Row → Fill
+fill_of r = record { side = r.side; shares = r.shares; price = r.price }
+
 -- a fill whose fields a ledger takes; a lapse is not posted
 abbrev pub is_posted_well : Row → Bool
 is_posted_well r = not (is_fill r.mark) || in_field r.shares r.price
-
--- whether an order leaves with a row that is posted
-abbrev pub leaves_filled : Option Row → Bool
-leaves_filled None = false
-leaves_filled (Some r) = is_fill r.mark
 
 -- the quote at which the timer fills: none before the opening
 abbrev pub timer_quote : Figures → Quote

@@ -1,9 +1,9 @@
 -- The state of a day: its figures and its live orders.
 use Rattle.std.specs.Prelude.{ℕ, Bool, true, false, not, ◌&&◌, ◌||◌, List, Some, None, Option, nat_le}
 use Rattle.market.specs.Limits.{is_price, is_tag, is_time, is_unit}
+use Rattle.market.specs.Terms.{has_stop}
 use Rattle.market.specs.declared.side.Side.{Side}
 use Rattle.market.specs.declared.side.Side.TheVariants.{Buy, SellLong, SellShort}
-use Rattle.book.specs.Orders.{has_stop}
 use Rattle.book.specs.Sales.{is_market}
 use Rattle.book.specs.declared.order.Order.{Order}
 use Rattle.rules.specs.declared.figures.Figures.{Figures}

@@ -4,13 +4,13 @@ use Rattle.market.specs.declared.refusal.Refusal.{Refusal}
 use Rattle.ledger.specs.Law.{MovedBy}
 use Rattle.ledger.specs.Posting.{Numbers}
 use Rattle.book.specs.declared.row.Row.{Row}
-use Rattle.rules.specs.Machine.{after_call, fills_of, refusal_of, reply_of, rows_of}
+use Rattle.rules.specs.Machine.{after_call, fill_of, fills_of, refusal_of, reply_of, rows_of}
 use Rattle.rules.specs.States.{State}
 use Rattle.rules.specs.declared.call.Call.{Call}
 
 -- a ledger's numbers moved by rows, each posted once
 abbrev pub PostedOnce : Numbers → List Row → Numbers → Type 0
-PostedOnce before rows after = MovedBy (λ r. r.side) (λ r. r.shares) (λ r. r.price) before rows after
+PostedOnce before rows after = MovedBy fill_of before rows after
 
 -- by the refusal that fits, if any: the answer, the rows and the state after
 abbrev pub answer_by : Option Refusal → ℕ → Result ℕ Refusal

@@ -12,6 +12,14 @@ pub enum Call {
     Close,
 }
 
+// What a making gives.
+#[derive(Clone, Copy)]
+pub struct NewDay {
+    pub unit: u32,
+    pub prior_close: u32,
+    pub tag: u32,
+}
+
 // What an order call gives. A price that the kind does not use is 0.
 #[derive(Clone, Copy)]
 pub struct NewOrder {

@@ -2,7 +2,6 @@
 #![tactic(auto)]
 
 mod morning;
-mod names;
 mod sale;
 mod whole_day;
 

@@ -1,46 +1,57 @@
 // Books one morning's fills into a totals ledger and into a journal, which then agree.
 ghost use Rattle.ledger.specs.Law.{AddsUp};
-ghost use Rattle.ledger.specs.Posting.{numbers};
 
-use crate::names::side_name;
+use ledger::fill::Fill;
 use ledger::journal::Journal;
 use ledger::post_all::post_all;
 use ledger::posting::Ledger;
-use ledger::postings::{Outcome, Posting};
+use ledger::postings::Posting;
 use ledger::row::JournalRow;
 use ledger::start::Start;
 use ledger::totals::Totals;
-use market::numbered::Numbered;
 use market::refusal::Refusal;
 use market::side::Side;
 use std::io;
 
+// A fill of these fields, to be posted.
+fn posting(side: Side, shares: u32, price: u32) -> Posting {
+    Posting::from(Fill {
+        side,
+        shares,
+        price,
+    })
+}
+
 // The fills of the morning, one of which no ledger takes: 100 shares are no odd lot.
 fn morning() -> [Posting; 9] {
     [
-        Posting::new(Side::Buy, 60, 200_000),
-        Posting::new(Side::SellLong, 40, 200_000),
-        Posting::new(Side::SellShort, 25, 200_100),
-        Posting::new(Side::Buy, 99, 200_100),
-        Posting::new(Side::Buy, 100, 200_000),
-        Posting::new(Side::Buy, 1, 1),
-        Posting::new(Side::SellLong, 99, 200_000_000),
-        Posting::new(Side::SellShort, 7, 199_950),
-        Posting::new(Side::Buy, 30, 199_900),
+        posting(Side::Buy, 60, 200_000),
+        posting(Side::SellLong, 40, 200_000),
+        posting(Side::SellShort, 25, 200_100),
+        posting(Side::Buy, 99, 200_100),
+        posting(Side::Buy, 100, 200_000),
+        posting(Side::Buy, 1, 1),
+        posting(Side::SellLong, 99, 200_000_000),
+        posting(Side::SellShort, 7, 199_950),
+        posting(Side::Buy, 30, 199_900),
     ]
 }
 
 // One line for a posting and what became of it.
 fn show_posting(rt: &HostRuntime, posting: &Posting) -> io::Result<()> {
-    let side = side_name(posting.side);
-    let shares = posting.shares;
-    let price = posting.price;
-    match posting.outcome {
-        Outcome::Unposted => println!(rt; "  {side} {shares} at {price}: not posted"),
-        Outcome::Accepted => println!(rt; "  {side} {shares} at {price}: accepted"),
-        Outcome::Refused(refusal) => {
-            let number = refusal.number();
-            println!(rt; "  {side} {shares} at {price}: refused with {number}")
+    let Fill {
+        side,
+        shares,
+        price,
+    } = posting.fill;
+    match posting.answer {
+        None => println!(rt; "  {side} {shares} at {price}: not posted"),
+        Some(Ok(())) => println!(rt; "  {side} {shares} at {price}: accepted"),
+        Some(Err(refusal)) => {
+            println!(rt;
+                "  {side} {shares} at {price}: refused with {}",
+                u32::from(refusal)
+            )
         }
     }
 }
@@ -55,7 +66,7 @@ fn show_position<L: Ledger>(rt: &HostRuntime, ledger: &L) -> io::Result<()> {
 
 // Posts a list to a ledger, and shows each posting and the position after them.
 fn book<L: Ledger>(rt: &HostRuntime, ledger: &mut L, postings: &mut [Posting]) -> io::Result<()>
-    ensures { AddsUp (numbers L.shares L.money L.places ledger.old) postings.new (numbers L.shares L.money L.places ledger.new) }
+    ensures { AddsUp (L.numbers ledger.old) postings.new (L.numbers ledger.new) }
 {
     post_all(ledger, postings);
     for posting in postings.iter() {
@@ -74,8 +85,10 @@ fn show_start(
     match answer {
         Ok(()) => println!(rt; "start at {shares} shares, {money} money: accepted"),
         Err(refusal) => {
-            let number = refusal.number();
-            println!(rt; "start at {shares} shares, {money} money: refused with {number}")
+            println!(rt;
+                "start at {shares} shares, {money} money: refused with {}",
+                u32::from(refusal)
+            )
         }
     }
 }
@@ -95,9 +108,5 @@ pub(crate) fn show(rt: &HostRuntime) -> io::Result<()> {
     let mut rows = [JournalRow::blank(); 8];
     let mut journal = Journal::new(&mut rows, &start);
     book(rt, &mut journal, &mut morning())?;
-    book(
-        rt,
-        &mut journal,
-        &mut [Posting::new(Side::SellLong, 5, 200_000)],
-    )
+    book(rt, &mut journal, &mut [posting(Side::SellLong, 5, 200_000)])
 }

@@ -1,12 +1,9 @@
 // Takes one sale through: from the orders in the book to the rows of the report and the orders that are left.
-use crate::names::{kind_name, side_name};
 use book::book::Book;
 use book::order::Order;
 use book::row::Row;
 use book::sale::{RoundLot, is_rising};
 use market::kind::Kind;
-use market::mark::Mark;
-use market::numbered::Numbered;
 use market::refusal::Refusal;
 use market::side::Side;
 use std::io;
@@ -40,24 +37,23 @@ fn orders() -> [Order; 8] {
 }
 
 fn show_order(rt: &HostRuntime, order: &Order) -> io::Result<()> {
-    let number = order.number;
-    let side = side_name(order.side);
-    let kind = kind_name(order.kind);
-    let shares = order.shares;
-    let limit = order.limit;
-    let stop = order.stop;
     let elected = if order.elected { ", elected" } else { "" };
-    println!(rt; "  order {number}: {side} {shares}, {kind}, limit {limit}, stop {stop}{elected}")
+    println!(rt;
+        "  order {}: {} {}, {}, limit {}, stop {}{elected}",
+        order.number, order.side, order.shares, order.kind, order.limit, order.stop
+    )
 }
 
 // The five numbers of a row.
 pub(crate) fn show_row(rt: &HostRuntime, row: &Row) -> io::Result<()> {
-    let number = row.number;
-    let side = row.side.number();
-    let shares = row.shares;
-    let price = row.price;
-    let mark = row.mark.number();
-    println!(rt; "  {number} {side} {shares} {price} {mark}")
+    println!(rt;
+        "  {} {} {} {} {}",
+        row.number,
+        u32::from(row.side),
+        row.shares,
+        row.price,
+        u32::from(row.mark)
+    )
 }
 
 // Enters the orders, and shows each with the answer where it is refused.
@@ -65,10 +61,7 @@ fn enter_orders(rt: &HostRuntime, book: &mut Book) -> io::Result<()> {
     for order in orders() {
         match book.enter(order) {
             Ok(()) => show_order(rt, &order)?,
-            Err(refusal) => {
-                let refused = refusal.number();
-                println!(rt; "  refused with {refused}")?;
-            }
+            Err(refusal) => println!(rt; "  refused with {}", u32::from(refusal))?,
         }
     }
     Ok(())
@@ -84,10 +77,7 @@ fn show_rows(rt: &HostRuntime, answer: Result<usize, Refusal>, report: &[Row]) -
             }
             Ok(())
         }
-        Err(refusal) => {
-            let refused = refusal.number();
-            println!(rt; "refused with {refused}")
-        }
+        Err(refusal) => println!(rt; "refused with {}", u32::from(refusal)),
     }
 }
 
@@ -102,14 +92,7 @@ pub(crate) fn show(rt: &HostRuntime) -> io::Result<()> {
         rising: is_rising(200_000, false, 200_100),
         opening: false,
     };
-    let blank = Row {
-        number: 0,
-        side: Side::Buy,
-        shares: 0,
-        price: 0,
-        mark: Mark::Lapse,
-    };
-    let mut report = [blank; 8];
+    let mut report = [Row::blank(); 8];
     let answer = book.apply_sale(sale, &mut report);
     show_rows(rt, answer, &report)?;
     println!(rt; "the book after it")?;

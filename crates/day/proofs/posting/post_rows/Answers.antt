@@ -1,5 +1,4 @@
 use Rattle.std.proofs.Common.{List, subst, take_all}
-use Rattle.ledger.specs.Posting.{numbers}
 use Rattle.book.specs.Orders.{no_row}
 use Rattle.book.specs.declared.row.Row.{Row}
 use Rattle.book.proofs.Ahead.{pass_at}
@@ -10,8 +9,7 @@ use Rattle.day.proofs.posting.post_rows.Goals as goal
 
 pub post_row-requires : goal.post_row-requires
 post_row-requires g c =
-    let m = g.L.Ledger in
-    let at = numbers m.shares m.money m.places in
+    let at = g.L.Ledger.numbers in
     let l = c.loop-row in
     record {
       fields = pass_at is_posted_well c.args.rows.now l.row-index no_row c.loop-row-test.true c.requires.fields;
@@ -20,14 +18,12 @@ post_row-requires g c =
 
 pub loop-row-preserved : goal.loop-row-preserved
 loop-row-preserved g c =
-    let m = g.L.Ledger in
-    let at = numbers m.shares m.money m.places in
+    let at = g.L.Ledger.numbers in
     let l = c.loop-row in
     posted_more c.args.rows.now l.row-index (at c.args.ledger.now) (at l.ledger) (at c.post_row.new.ledger) c.loop-row-test.true l.invariant c.post_row.ensures
 
 pub returns : goal.returns
 returns g c =
-    let m = g.L.Ledger in
-    let at = numbers m.shares m.money m.places in
+    let at = g.L.Ledger.numbers in
     let l = c.loop-row in
     subst (λ (xs : List Row). PostedOnce (at c.args.ledger.now) (fills_of xs) (at l.ledger)) (take_all l.row-index c.args.rows.now c.loop-row-test.false) l.invariant

@@ -1,20 +1,20 @@
 use Rattle.std.proofs.Common.{sym, refl, ap}
-use Rattle.ledger.specs.Posting.{numbers}
+use Rattle.std.proofs.lemmas.Result.{err_from_is_err_and}
 use Rattle.rules.proofs.Stepping.{quiet_accepted, quiet_refused}
 use Rattle.rules.specs.Machine.{shares_of}
 use Rattle.rules.specs.declared.call.Call.TheVariants.{Cancel}
 use Rattle.day.specs.Days.{state_of}
 use Rattle.day.proofs.live.Day.cancel.Goals as goal
 
-pub returns-in-Ok : goal.returns-in-Ok
-returns-in-Ok g c =
-    let m = g.L.Ledger in
+pub returns-in_err-order : goal.returns-in_err-order
+returns-in_err-order g c =
     let d = c.args.self.now in
-    let h = c.in-Ok.ensures in
-    quiet_accepted (Cancel c.args.number) (state_of d.live) (numbers m.shares m.money m.places d.ledger) c.in-Ok.order.shares (state_of c.take_away.new.self) refl h.0 (sym (ap shares_of h.1)) c.take_away.ensures
+    let p = err_from_is_err_and c.from_residual.result c.from_residual.ensures.1 in
+    rw (p.1, p.2)
+    (quiet_refused (Cancel c.args.number) (state_of d.live) (g.L.Ledger.numbers d.ledger) _ refl c.in_err-order.ensures)
 
-pub returns-in-Err : goal.returns-in-Err
-returns-in-Err g c =
-    let m = g.L.Ledger in
+pub returns : goal.returns
+returns g c =
     let d = c.args.self.now in
-    quiet_refused (Cancel c.args.number) (state_of d.live) (numbers m.shares m.money m.places d.ledger) c.in-Err.refusal refl c.in-Err.ensures
+    let h = c.in_ok-order.ensures in
+    quiet_accepted (Cancel c.args.number) (state_of d.live) (g.L.Ledger.numbers d.ledger) c.in_ok-order.order.shares (state_of c.take_away.new.self) refl h.0 (sym (ap shares_of h.1)) c.take_away.ensures

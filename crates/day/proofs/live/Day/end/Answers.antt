@@ -1,5 +1,4 @@
 use Rattle.std.proofs.Common.{refl, ap}
-use Rattle.ledger.specs.Posting.{numbers}
 use Rattle.book.specs.Books.{orders_of}
 use Rattle.book.specs.Passes.{rows_by, stays_by}
 use Rattle.book.specs.Quotes.{close_row}
@@ -9,7 +8,7 @@ use Rattle.rules.specs.declared.figures.Phase.TheVariants.{Closed}
 use Rattle.rules.proofs.Fitting.{rows_well}
 use Rattle.rules.proofs.Wells.{close_well, order_closed, quote_fits}
 use Rattle.day.specs.Days.{state_of}
-use Rattle.day.proofs.Carrying.{carried_step, stays_fit}
+use Rattle.day.proofs.Carrying.{done_step, stays_fit}
 use Rattle.day.proofs.live.Day.end.Goals as goal
 
 pub carry-requires : goal.carry-requires
@@ -26,12 +25,12 @@ carry-requires g c =
 
 pub returns : goal.returns
 returns g c =
-    let m = g.L.Ledger in
-    let at = numbers m.shares m.money m.places in
+    let at = g.L.Ledger.numbers in
     let d = c.args.self.now in
     let l = d.live in
     let book = orders_of l.book in
-    carried_step Close (state_of l) (close_row c.is_open.result l.figures.quote) (with_phase Closed l.figures) c.args.report.now (at d.ledger) c.carry.result (state_of c.carry.new.self.live) c.carry.new.report (at c.carry.new.self.ledger) c.requires
+    let pass = close_row c.is_open.result l.figures.quote in
+    done_step Close (state_of l) (record { figures = with_phase Closed l.figures; book = stays_by pass book }) (rows_by pass book) c.args.report.now (at d.ledger) c.carry.result (state_of c.carry.new.self.live) c.carry.new.report (at c.carry.new.self.ledger) c.requires
     (ap (λ b. rows_by (close_row b l.figures.quote) book) c.is_open.ensures)
     refl
     (ap (λ b. record { figures = with_phase Closed l.figures; book = stays_by (close_row b l.figures.quote) book }) c.is_open.ensures)

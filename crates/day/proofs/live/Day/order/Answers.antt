@@ -1,22 +1,20 @@
 use Rattle.std.proofs.Common.{refl}
-use Rattle.ledger.specs.Posting.{numbers}
+use Rattle.std.proofs.lemmas.Result.{err_from_is_err_and}
 use Rattle.rules.proofs.Fitting.{fresh}
 use Rattle.rules.proofs.Stepping.{quiet_accepted, quiet_refused}
-use Rattle.rules.specs.declared.call.NewOrder.{NewOrder}
 use Rattle.rules.specs.declared.call.Call.TheVariants.{Order}
 use Rattle.day.specs.Days.{state_of}
 use Rattle.day.proofs.live.Day.order.Goals as goal
 
-pub returns-in-Ok : goal.returns-in-Ok
-returns-in-Ok g c =
-    let m = g.L.Ledger in
+pub returns-in_err-order : goal.returns-in_err-order
+returns-in_err-order g c =
     let d = c.args.self.now in
-    let new : NewOrder = record { side = c.args.side; kind = c.args.kind; shares = c.args.quantity; limit = c.args.limit; stop = c.args.stop } in
-    let h = c.in-Ok.ensures in
-    quiet_accepted (Order new) (state_of d.live) (numbers m.shares m.money m.places d.ledger) c.in-Ok.order.number (state_of c.join.new.self) refl h.0 (fresh d.live.figures new c.in-Ok.order h.1).next c.join.ensures
+    let p = err_from_is_err_and c.from_residual.result c.from_residual.ensures.1 in
+    rw (p.1, p.2)
+    (quiet_refused (Order c.args.new) (state_of d.live) (g.L.Ledger.numbers d.ledger) _ refl c.in_err-order.ensures)
 
-pub returns-in-Err : goal.returns-in-Err
-returns-in-Err g c =
-    let m = g.L.Ledger in
+pub returns : goal.returns
+returns g c =
     let d = c.args.self.now in
-    quiet_refused (Order (record { side = c.args.side; kind = c.args.kind; shares = c.args.quantity; limit = c.args.limit; stop = c.args.stop })) (state_of d.live) (numbers m.shares m.money m.places d.ledger) c.in-Err.refusal refl c.in-Err.ensures
+    let h = c.in_ok-order.ensures in
+    quiet_accepted (Order c.args.new) (state_of d.live) (g.L.Ledger.numbers d.ledger) c.in_ok-order.order.number (state_of c.join.new.self) refl h.0 (fresh d.live.figures c.args.new c.in_ok-order.order h.1).next c.join.ensures

@@ -1,18 +1,19 @@
-use Rattle.std.proofs.Common.{sym, refl, ◌∙◌}
-use Rattle.ledger.specs.Posting.{numbers}
+use Rattle.std.proofs.Common.{refl}
+use Rattle.std.proofs.lemmas.Result.{err_from_is_err_and}
 use Rattle.rules.proofs.Stepping.{quiet_accepted, quiet_refused}
 use Rattle.rules.specs.declared.call.Call.TheVariants.{Quote}
 use Rattle.day.specs.Days.{state_of}
+use Rattle.day.proofs.Answering.{allowed_by, refused_by}
 use Rattle.day.proofs.live.Day.quote.Goals as goal
 
-pub returns-in-Some : goal.returns-in-Some
-returns-in-Some g c =
-    let m = g.L.Ledger in
+pub returns-in_err-may_quote : goal.returns-in_err-may_quote
+returns-in_err-may_quote g c =
     let d = c.args.self.now in
-    quiet_refused (Quote (record { bid = c.args.bid; offer = c.args.offer })) (state_of d.live) (numbers m.shares m.money m.places d.ledger) c.in-Some.refusal refl (sym c.refuses_quote.ensures ∙ c.in-Some.is)
+    let p = err_from_is_err_and c.from_residual.result c.from_residual.ensures.1 in
+    rw (p.1, p.2)
+    (quiet_refused (Quote c.args.new) (state_of d.live) (g.L.Ledger.numbers d.ledger) _ refl (refused_by _ _ c.in_err-may_quote.ensures))
 
-pub returns-in-None : goal.returns-in-None
-returns-in-None g c =
-    let m = g.L.Ledger in
+pub returns : goal.returns
+returns g c =
     let d = c.args.self.now in
-    quiet_accepted (Quote (record { bid = c.args.bid; offer = c.args.offer })) (state_of d.live) (numbers m.shares m.money m.places d.ledger) 0 (state_of c.set_quote.new.self) refl (sym c.refuses_quote.ensures ∙ c.in-None.is) refl c.set_quote.ensures
+    quiet_accepted (Quote c.args.new) (state_of d.live) (g.L.Ledger.numbers d.ledger) 0 (state_of c.set_quote.new.self) refl (allowed_by _ c.in_ok-may_quote.ensures) refl c.set_quote.ensures

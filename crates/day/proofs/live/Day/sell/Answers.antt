@@ -1,7 +1,6 @@
 use Rattle.std.proofs.Common.{refl, ap, ◌∙◌}
 use Rattle.std.specs.List.{list_all}
 use Rattle.std.proofs.lemmas.Result.{err_from_is_err_and}
-use Rattle.ledger.specs.Posting.{numbers}
 use Rattle.book.specs.Books.{orders_of}
 use Rattle.book.specs.Cuts.{cut_row}
 use Rattle.book.specs.Sales.{sale_row}
@@ -28,8 +27,7 @@ carry-requires g c =
 
 pub returns-in_err-n : goal.returns-in_err-n
 returns-in_err-n g c =
-    let m = g.L.Ledger in
-    let at = numbers m.shares m.money m.places in
+    let at = g.L.Ledger.numbers in
     let d = c.args.self.now in
     let sale = c.args.sale in
     let book = orders_of d.live.book in
@@ -40,8 +38,7 @@ returns-in_err-n g c =
 
 pub returns : goal.returns
 returns g c =
-    let m = g.L.Ledger in
-    let at = numbers m.shares m.money m.places in
+    let at = g.L.Ledger.numbers in
     let d = c.args.self.now in
     let sale = c.args.sale in
     let book = orders_of d.live.book in

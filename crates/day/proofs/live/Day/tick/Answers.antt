@@ -1,6 +1,5 @@
 use Rattle.std.proofs.Common.{◌≡◌, true, List, sym, refl, ap, ◌∙◌, subst}
 use Rattle.std.specs.List.{list_all}
-use Rattle.ledger.specs.Posting.{numbers}
 use Rattle.book.specs.Books.{orders_of}
 use Rattle.book.specs.Passes.{rows_by, stays_by}
 use Rattle.book.specs.Quotes.{timer_row}
@@ -12,7 +11,7 @@ use Rattle.rules.specs.declared.call.Call.TheVariants.{Clock}
 use Rattle.rules.proofs.Fitting.{rows_well}
 use Rattle.rules.proofs.Wells.{clock_known, order_in_time, quote_fits, time_fits, timer_quote_fits, timer_rows, timer_well}
 use Rattle.day.specs.Days.{state_of}
-use Rattle.day.proofs.Carrying.{carried_step, stays_fit}
+use Rattle.day.proofs.Carrying.{done_step, stays_fit}
 use Rattle.day.proofs.live.Day.tick.Goals as goal
 
 pub carry-requires : goal.carry-requires
@@ -33,14 +32,14 @@ carry-requires g c =
 
 pub returns : goal.returns
 returns g c =
-    let m = g.L.Ledger in
-    let at = numbers m.shares m.money m.places in
+    let at = g.L.Ledger.numbers in
     let d = c.args.self.now in
     let l = d.live in
     let t = c.args.time in
     let book = orders_of l.book in
     let both = timer_rows (is_open l.figures.phase) t l.figures.quote book in
-    carried_step (Clock t) (state_of l) (timer_row t c.timer_quote-quote.result) (with_time t l.figures) c.args.report.now (at d.ledger) c.carry.result (state_of c.carry.new.self.live) c.carry.new.report (at c.carry.new.self.ledger) c.requires
+    let pass = timer_row t c.timer_quote-quote.result in
+    done_step (Clock t) (state_of l) (record { figures = with_time t l.figures; book = stays_by pass book }) (rows_by pass book) c.args.report.now (at d.ledger) c.carry.result (state_of c.carry.new.self.live) c.carry.new.report (at c.carry.new.self.ledger) c.requires
     (ap (λ (x : Quote). rows_by (timer_row t x) book) c.timer_quote-quote.ensures ∙ both.0)
     refl
     (ap (λ (x : Quote). record { figures = with_time t l.figures; book = stays_by (timer_row t x) book }) c.timer_quote-quote.ensures ∙ ap (λ (xs : List Order). record { figures = with_time t l.figures; book = xs }) both.1)

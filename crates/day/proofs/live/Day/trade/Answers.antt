@@ -1,28 +1,31 @@
-use Rattle.std.proofs.Common.{false, sym, refl, ◌∙◌, subst}
-use Rattle.ledger.specs.Posting.{numbers}
+use Rattle.std.proofs.Common.{false, refl, subst}
+use Rattle.std.proofs.lemmas.Result.{err_from_is_err_and}
+use Rattle.book.specs.Sales.{after_sale, sale_rows}
 use Rattle.book.specs.declared.sale.RoundLot.{RoundLot}
-use Rattle.rules.specs.Machine.{round_lot}
+use Rattle.rules.specs.Machine.{after_round_lot, round_lot}
+use Rattle.rules.specs.States.{State}
 use Rattle.rules.specs.declared.call.Call.TheVariants.{Trade}
-use Rattle.rules.specs.declared.call.NewSale.{NewSale}
 use Rattle.rules.proofs.Stepping.{step_early}
 use Rattle.day.specs.Calls.{SoldOn}
 use Rattle.day.specs.Days.{state_of}
-use Rattle.day.proofs.Carrying.{sold_step}
+use Rattle.day.proofs.Answering.{allowed_by, refused_by}
+use Rattle.day.proofs.Carrying.{done_step}
 use Rattle.day.proofs.live.Day.trade.Goals as goal
 
-pub returns-in-Some : goal.returns-in-Some
-returns-in-Some g c =
-    let m = g.L.Ledger in
+pub returns-in_err-may_trade : goal.returns-in_err-may_trade
+returns-in_err-may_trade g c =
     let d = c.args.self.now in
-    step_early (Trade (record { price = c.args.price; volume = c.args.volume })) (state_of d.live) c.args.report.now (numbers m.shares m.money m.places d.ledger) c.in-Some.refusal (sym c.refuses_trade.ensures ∙ c.in-Some.is)
+    let p = err_from_is_err_and c.from_residual.result c.from_residual.ensures.1 in
+    rw (p.1, p.2)
+    (step_early (Trade c.args.new) (state_of d.live) c.args.report.now (g.L.Ledger.numbers d.ledger) _ (refused_by _ _ c.in_err-may_trade.ensures))
 
-pub returns-in-None : goal.returns-in-None
-returns-in-None g c =
-    let m = g.L.Ledger in
-    let at = numbers m.shares m.money m.places in
+pub returns : goal.returns
+returns g c =
+    let at = g.L.Ledger.numbers in
     let d = c.args.self.now in
-    let new : NewSale = record { price = c.args.price; volume = c.args.volume } in
     let s = state_of d.live in
-    let sale = round_lot d.live.figures false new in
-    sold_step (Trade new) sale s c.args.report.now (at d.ledger) c.sell.result (state_of c.sell.new.self.live) c.sell.new.report (at c.sell.new.self.ledger) (sym c.refuses_trade.ensures ∙ c.in-None.is) refl refl refl
+    let sale = round_lot d.live.figures false c.args.new in
+    let after : State = record { figures = after_round_lot sale s.figures; book = after_sale sale s.book } in
+    done_step (Trade c.args.new) s after (sale_rows sale s.book) c.args.report.now (at d.ledger) c.sell.result (state_of c.sell.new.self.live) c.sell.new.report (at c.sell.new.self.ledger)
+    (allowed_by _ c.in_ok-may_trade.ensures) refl refl refl
     (subst (λ (x : RoundLot). SoldOn x s c.args.report.now (at d.ledger) c.sell.result (state_of c.sell.new.self.live) c.sell.new.report (at c.sell.new.self.ledger)) c.round_lot.ensures c.sell.ensures)
