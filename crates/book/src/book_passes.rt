@@ -9,7 +9,7 @@ use crate::book::Book;
 use crate::pass::Pass;
 use crate::row::Row;
 use crate::sale::RoundLot;
-use crate::settle::{count, elect_all, keep, write};
+use crate::settle::{elect_all, write};
 use market::refusal::Refusal;
 
 impl Book {
@@ -17,7 +17,10 @@ impl Book {
     pub fn count<P: Pass>(&self, pass: &P) -> usize
         ensures { result ≡ length (rows_by (P.leaves pass.now) (orders_of self.now)) }
     {
-        count(self.orders.as_slice(), pass)
+        self.orders()
+            .iter()
+            .filter_map(|order| pass.row(order))
+            .count()
     }
 
     // Writes the rows of a pass to a report, from its first place on, or refuses where they do not fit.
@@ -28,7 +31,7 @@ impl Book {
         if report.len() < n {
             return Err(Refusal::ReportFull);
         }
-        write(self.orders.as_slice(), pass, report);
+        write(self.orders(), pass, report);
         Ok(n)
     }
 
@@ -37,7 +40,7 @@ impl Book {
         ensures orders { orders_of self.new ≡ stays_by (P.leaves pass.now) (orders_of self.old) }
         ensures unit { self.new.unit ≡ self.old.unit }
     {
-        keep(&mut self.orders, pass);
+        self.orders.retain(|order| pass.row(order).is_none());
     }
 
     // Elects each stop that a sale at this price reaches.

@@ -7,7 +7,8 @@ use market::mark::Mark;
 use market::side::Side;
 use market::sided::Sided;
 
-// A live order. A price that its kind does not use is 0.
+// A live order. A price that its kind does not use is 0, and no Option: an order shows its fields as they were given, and
+// the book refuses, by a number, a price that goes against the kind.
 #[derive(Clone, Copy)]
 pub struct Order {
     pub number: u32,

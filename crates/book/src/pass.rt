@@ -8,7 +8,8 @@ use crate::quote::Quote;
 use crate::row::Row;
 use crate::sale::RoundLot;
 
-// Says of each order whether it leaves the book, and with which row.
+// Says of each order whether it leaves the book, and with which row. A trait and no closure: its ghost function is what the
+// promises of a pass speak of, and of a closure each public call would first require that it may be called.
 pub trait Pass {
     ghost leaves: { Self → Order → Option Row };
 

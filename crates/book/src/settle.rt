@@ -1,6 +1,6 @@
-// What any pass does: its rows counted and written, the orders that leave taken out, stops elected.
-ghost use Rattle.std.specs.Prelude.{◌≡◌, ◌≤◌, List, ◌++◌, map, length, drop, vec_len, vec_capacity};
-ghost use Rattle.book.specs.Passes.{rows_by, stays_by};
+// What passes and elections are made of: rows written, stops elected.
+ghost use Rattle.std.specs.Prelude.{◌≡◌, ◌≤◌, ◌++◌, map, length, drop, vec_capacity};
+ghost use Rattle.book.specs.Passes.{rows_by};
 ghost use Rattle.book.specs.Sales.{elect as elect_at};
 
 use crate::order::Order;
@@ -8,13 +8,6 @@ use crate::pass::Pass;
 use crate::row::Row;
 use market::kind::Kind;
 use market::side::MarketSide;
-
-// How many rows a pass has.
-pub(crate) fn count<P: Pass>(orders: &[Order], pass: &P) -> usize
-    ensures { result ≡ length (rows_by (P.leaves pass.now) orders.now) }
-{
-    orders.iter().filter_map(|order| pass.row(order)).count()
-}
 
 // Writes the rows of a pass from the report's first place on.
 pub(crate) fn write<P: Pass>(orders: &[Order], pass: &P, report: &mut [Row])
@@ -30,14 +23,6 @@ pub(crate) fn write<P: Pass>(orders: &[Order], pass: &P, report: &mut [Row])
             n += 1;
         }
     }
-}
-
-// Takes the orders that leave out of the book; the others keep their order.
-pub(crate) fn keep<P: Pass>(orders: &mut Vec<Order>, pass: &P)
-    ensures items { orders.new.items ≡ stays_by (P.leaves pass.now) orders.old.items }
-    ensures capacity { vec_capacity orders.new ≡ vec_capacity orders.old }
-{
-    orders.retain(|order| pass.row(order).is_none());
 }
 
 // The order after a sale at this price: elected where the sale reaches its stop.

@@ -1,5 +1,6 @@
 pub mod Bounds
 pub mod Posting
+pub mod Postable
 pub mod Opening
 pub mod Sums
 pub mod Journals

@@ -1,8 +1,9 @@
 // A customer's fill.
-ghost use Rattle.std.specs.Prelude.{◌≡◌, ◌*◌};
+ghost use Rattle.std.specs.Prelude.{◌≡◌, ◌*◌, true};
 ghost use Rattle.ledger.specs.Posting.{in_field};
 
 use market::limits::{is_postable, is_price};
+use market::refusal::Refusal;
 use market::side::Side;
 
 // The customer's side, shares and price, with any numbers: a ledger refuses those out of range.
@@ -26,5 +27,28 @@ impl Fill {
         ensures { result ≡ self.shares * self.price }
     {
         u64::from(self.shares) * u64::from(self.price)
+    }
+}
+
+// A fill whose fields are in range, so that a ledger with a place takes it.
+#[derive(Clone, Copy)]
+pub struct Postable {
+    pub fill: Fill,
+    ghost fits: { in_field fill.shares fill.price ≡ true },
+}
+
+impl TryFrom<Fill> for Postable {
+    ghost use Rattle.ledger.specs.Postable.{Checked};
+
+    type Error = Refusal;
+
+    ghost try_from_gives = { Checked };
+
+    fn try_from(fill: Fill) -> Result<Postable, Refusal> {
+        if fill.in_field() {
+            Ok(Postable { fill })
+        } else {
+            Err(Refusal::BadField)
+        }
     }
 }

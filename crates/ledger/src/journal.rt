@@ -1,4 +1,5 @@
-// A journal over rows that the caller lends, added to a start. The first `used` rows are written.
+// A journal over rows that the caller lends, added to a start. The first `used` rows are written. The rows are a slice with
+// a count beside it and no Vec, since a posting may not allocate and the caller keeps the rows.
 use crate::row::JournalRow;
 use crate::start::Start;
 

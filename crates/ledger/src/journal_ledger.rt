@@ -1,14 +1,14 @@
 // The journal: a ledger whose posts write rows of a list that the caller lends.
-ghost use Rattle.std.specs.Prelude.{◌≡◌, ◌*◌, ◌<◌, ◌≤◌, min, true, length, Ok};
+ghost use Rattle.std.specs.Prelude.{◌≡◌, ◌*◌, ◌<◌, ◌≤◌, min, length, Ok};
 ghost use Rattle.ledger.specs.Bounds.{Within};
 ghost use Rattle.ledger.specs.Journals.{numbers_of, places_of, written_of, paid_of, Written};
 ghost use Rattle.ledger.specs.Inside.{journal_bounded};
 ghost use Rattle.ledger.specs.Opening.{starts_at};
-ghost use Rattle.ledger.specs.Posting.{Agree, Posted, in_field, moved};
+ghost use Rattle.ledger.specs.Posting.{Agree, Posted, moved};
 ghost use Rattle.ledger.specs.Sums.{sum_z};
 
 use crate::amounts::paid;
-use crate::fill::Fill;
+use crate::fill::{Fill, Postable};
 use crate::journal::Journal;
 use crate::posting::Ledger;
 use crate::row::JournalRow;
@@ -55,14 +55,13 @@ impl<'a, 's> Journal<'a, 's> {
     }
 
     // Writes the next row.
-    fn write_next(&mut self, fill: Fill)
-        requires room { 0 < places_of self.old }
-        requires fields { in_field fill.shares fill.price ≡ true }
-        ensures moved { Agree (numbers_of self.new) (moved fill (numbers_of self.old)) }
-        ensures written { Written self.old fill (Ok tt) self.new }
+    fn write_next(&mut self, lot: Postable)
+        requires { 0 < places_of self.old }
+        ensures moved { Agree (numbers_of self.new) (moved lot.fill (numbers_of self.old)) }
+        ensures written { Written self.old lot.fill (Ok tt) self.new }
         ensures lender { self.new.rows.ghost_name ≡ self.old.rows.ghost_name }
     {
-        self.rows[self.used] = JournalRow { fill };
+        self.rows[self.used] = JournalRow { fill: lot.fill };
         self.used += 1;
     }
 }
@@ -77,13 +76,11 @@ impl Ledger for Journal<'_, '_> {
         ensures written { Written self.old fill result self.new }
         ensures lender { self.new.rows.ghost_name ≡ self.old.rows.ghost_name }
     {
-        if !fill.in_field() {
-            return Err(Refusal::BadField);
-        }
+        let lot = Postable::try_from(fill)?;
         if self.places() == 0 {
             return Err(Refusal::LedgerFull);
         }
-        self.write_next(fill);
+        self.write_next(lot);
         Ok(())
     }
 

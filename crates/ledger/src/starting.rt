@@ -6,7 +6,7 @@ use market::refusal::Refusal;
 
 impl Start {
     // A start within 10^9 shares and 10^17 of money, either way. Any other is refused, and the start that comes with the
-    // refusal is at zero and makes ledgers without places.
+    // refusal is at zero and makes ledgers without places. That is a rule, so the answer stands beside the start.
     pub fn new(shares: i64, money: i64) -> (Start, Result<(), Refusal>)
         ensures { Started shares money result.1 result.0 }
     {

@@ -1,11 +1,11 @@
 // The totals ledger: running sums and no rows.
-ghost use Rattle.std.specs.Prelude.{◌≡◌, ◌<◌, true};
+ghost use Rattle.std.specs.Prelude.{◌≡◌, ◌<◌};
 ghost use Rattle.ledger.specs.Bounds.{totals_places};
-ghost use Rattle.ledger.specs.Posting.{Agree, in_field, moved};
+ghost use Rattle.ledger.specs.Posting.{Agree, moved};
 ghost use Rattle.ledger.specs.Opening.{starts_at, totals_bounded, totals_numbers};
 
 use crate::amounts::{by_side, paid};
-use crate::fill::Fill;
+use crate::fill::{Fill, Postable};
 use crate::posting::Ledger;
 use crate::start::Start;
 use crate::totals::Totals;
@@ -25,11 +25,11 @@ impl Totals {
     }
 
     // Counts in a posting that is accepted.
-    fn count_in(&mut self, fill: Fill)
-        requires room { 0 < self.old.left }
-        requires fields { in_field fill.shares fill.price ≡ true }
-        ensures { Agree (totals_numbers self.new) (moved fill (totals_numbers self.old)) }
+    fn count_in(&mut self, lot: Postable)
+        requires { 0 < self.old.left }
+        ensures { Agree (totals_numbers self.new) (moved lot.fill (totals_numbers self.old)) }
     {
+        let fill = lot.fill;
         self.shares -= by_side(fill.side, u64::from(fill.shares));
         self.money += paid(fill);
         self.left -= 1;
@@ -42,13 +42,11 @@ impl Ledger for Totals {
     ghost bounded = { totals_bounded };
 
     fn post(&mut self, fill: Fill) -> Result<(), Refusal> {
-        if !fill.in_field() {
-            return Err(Refusal::BadField);
-        }
+        let lot = Postable::try_from(fill)?;
         if self.left == 0 {
             return Err(Refusal::LedgerFull);
         }
-        self.count_in(fill);
+        self.count_in(lot);
         Ok(())
     }
 

@@ -1,4 +1,5 @@
-// The numbers of terms. They stand for the terms where lines, files and reports carry them.
+// The numbers of terms. They stand for the terms where lines, files and reports carry them: `u32::from(term)` gives a term's
+// number, and `Term::try_from(number)` the term. Each term has its own two impls, since no macro of ours may write them.
 ghost use Rattle.std.specs.Prelude.{Some, codes, decimal, ◌++◌};
 
 use std::error::Error;

@@ -5,6 +5,8 @@ ghost use Rattle.market.specs.Sums.{counted, shares_on, sum_on};
 
 use crate::side::{MarketSide, Side};
 
+// Each record says with two short methods which of its fields these are. A struct of both, held by each record, would be no
+// plainer: every reader of a record's side would go through it.
 pub trait Sided {
     ghost side: { Self → Side };
 
@@ -24,7 +26,8 @@ fn share_of(which: MarketSide, side: Side, n: u32) -> u32
     if side.market_side() == which { n } else { 0 }
 }
 
-// A test of records: which of them a sum is to count.
+// A test of records: which of them a sum is to count. A trait and no closure: its ghost function stands in the sum's promise,
+// and of a closure a caller would first have to show that it may be called.
 pub trait Test<T> {
     ghost passes: { Self → T → Bool };
 

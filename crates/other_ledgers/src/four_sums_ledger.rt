@@ -1,10 +1,10 @@
 // The four sums as a ledger of 1,000 places.
-ghost use Rattle.std.specs.Prelude.{◌≡◌, ◌<◌, true, pos};
-ghost use Rattle.ledger.specs.Posting.{Agree, in_field, moved};
+ghost use Rattle.std.specs.Prelude.{◌≡◌, ◌<◌, pos};
+ghost use Rattle.ledger.specs.Posting.{Agree, moved};
 ghost use Rattle.other_ledgers.specs.Bounded.{numbers_of, sums_bounded};
 
 use crate::four_sums::FourSums;
-use ledger::fill::Fill;
+use ledger::fill::{Fill, Postable};
 use ledger::posting::Ledger;
 use market::refusal::Refusal;
 use market::side::MarketSide;
@@ -24,11 +24,11 @@ impl FourSums {
     }
 
     // Adds an accepted posting to the two sums of its side of the market.
-    fn add(&mut self, fill: Fill)
-        requires room { 0 < self.old.left }
-        requires fields { in_field fill.shares fill.price ≡ true }
-        ensures { Agree (numbers_of self.new) (moved fill (numbers_of self.old)) }
+    fn add(&mut self, lot: Postable)
+        requires { 0 < self.old.left }
+        ensures { Agree (numbers_of self.new) (moved lot.fill (numbers_of self.old)) }
     {
+        let fill = lot.fill;
         self.left -= 1;
         match fill.side.market_side() {
             MarketSide::Buying => {
@@ -49,13 +49,11 @@ impl Ledger for FourSums {
     ghost bounded = { sums_bounded };
 
     fn post(&mut self, fill: Fill) -> Result<(), Refusal> {
-        if !fill.in_field() {
-            return Err(Refusal::BadField);
-        }
+        let lot = Postable::try_from(fill)?;
         if self.left == 0 {
             return Err(Refusal::LedgerFull);
         }
-        self.add(fill);
+        self.add(lot);
         Ok(())
     }
 

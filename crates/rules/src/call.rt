@@ -1,6 +1,7 @@
 // The calls of a day, with what they are given.
 
-// Sides, kinds and prices are the raw numbers that the order lines send.
+// Sides, kinds and prices are the raw numbers that the order lines send, 0 for a price that is missing: the day itself
+// refuses a number that is none, so no narrower type may stand here.
 #[derive(Clone, Copy)]
 pub enum Call {
     Order(NewOrder),
