@@ -1,5 +1,5 @@
 -- A record that stands at the front of a list has no fault.
-use Rattle.std.proofs.Common.{◌≡◌, ℕ, ◌+◌, ◌*◌, ◌/◌, ◌%◌, Bool, true, false, cond, ◌&&◌, eqb, ltb, List, [], ◌∷◌, ◌++◌, drop, Some, None, sym, refl, ap, ◌∙◌, subst, arith}
+use Rattle.std.proofs.Common.{◌≡◌, ℕ, ◌+◌, ◌*◌, ◌/◌, ◌%◌, Bool, true, false, cond, ◌&&◌, eqb, ltb, List, [], ◌∷◌, ◌++◌, drop, Some, None, sym, refl, ap, ◌∙◌, arith}
 use Rattle.std.specs.List.{flat_map}
 use Rattle.std.proofs.lemmas.Bool.{and_from, and_parts, lt-ltb, ltb-true}
 use Rattle.market.specs.declared.refusal.Refusal.{Refusal}
@@ -8,14 +8,12 @@ use Rattle.dayfile.specs.Entries.{has_limit_word, has_stop_word, is_start, is_va
 use Rattle.dayfile.specs.Faults.{fault_after, fault_among, fault_of, followers_of, gaps_clear, may_begin}
 use Rattle.dayfile.specs.Files.{NoRecord}
 use Rattle.dayfile.specs.Kinds.{word_kind_number, word_kind_of}
-use Rattle.dayfile.specs.Records.{Stands}
 use Rattle.dayfile.specs.Words.{bytes_of, kind_at, value_at, word}
 use Rattle.dayfile.specs.declared.entry.Entry.{Entry}
 use Rattle.dayfile.specs.declared.entry.Entry.TheVariants.{Start, Clock, Order, Cancel, Quote, Opening, Trade, Close}
 use Rattle.dayfile.specs.declared.fault.Fault.{Fault}
 use Rattle.dayfile.specs.declared.kind.WordKind.{WordKind}
 use Rattle.dayfile.specs.declared.kind.WordKind.TheVariants.{Time, Order as OrderWord, Limit, Stop, Cancel as CancelWord, Bid, Offer, OpeningPrice, TradePrice, Volume, Close as CloseWord, Unit as UnitWord, PriorClose, Tag}
-use Rattle.dayfile.specs.declared.record.Record.{Record}
 use Rattle.dayfile.proofs.Faulty.{among_next, head_next, order_fault, own_kind}
 
 -- the bytes of a word, read back
@@ -115,7 +113,3 @@ pub record_fault : (file rest : List ℕ) (at : ℕ) (first : Bool) (f : Fault) 
 record_fault file rest at first f e b place h =
     let g : fault_of (eqb at 0) (drop at file) ≡ Some f.reason = ap (λ x. fault_of x (drop at file)) b ∙ ap (fault_of first) (sym e) ∙ h in
     (no_record (eqb at 0) (drop at file) f.reason g, g, place)
-
-pub record_stands : (file rest : List ℕ) (at : ℕ) (first : Bool) (x : Record) → rest ≡ drop at file → eqb at 0 ≡ first → Stands first rest x → Stands (eqb at 0) (drop at file) x
-record_stands file rest at first x e b h =
-    subst (λ (l : List ℕ). Stands (eqb at 0) l x) e (subst (λ (f : Bool). Stands f rest x) (sym b) h)

@@ -1,5 +1,5 @@
 -- What the functions that read words and records answer.
-use Rattle.std.specs.Prelude.{◌≡◌, ℕ, ◌+◌, ◌≤◌, Bool, cond, List, [], ◌∷◌, length, take, drop, Some, None, Ok, Err, Option, Result, nat_lt}
+use Rattle.std.specs.Prelude.{◌≡◌, ℕ, ◌+◌, ◌*◌, ◌≤◌, Bool, cond, List, [], ◌∷◌, length, take, drop, Some, None, Ok, Err, Option, Result, nat_lt}
 use Rattle.std.specs.Borrow.{Bor}
 use Rattle.market.specs.declared.refusal.Refusal.{Refusal}
 use Rattle.market.specs.declared.refusal.Refusal.TheVariants.{FileCut, BadWord}
@@ -41,19 +41,15 @@ abbrev pub Found : Bool → List ℕ → ℕ → Result Record Fault → Type 0
 Found first rest place (Ok x) = Stands first rest x
 Found first rest place (Err f) = (f.place ≡ place) × (fault_of first rest ≡ Some f.reason)
 
--- the bytes of a first word and a second of a kind, or the fault of a record that needs them
-abbrev pub TwoWords : List ℕ → WordKind → ℕ → Result (Bor (List ℕ)) Fault → Type 0
-TwoWords rest k place (Ok p) =
-    (8 ≤ length rest)
-    × (p.now ≡ take 8 rest)
-    × (take 4 (drop 4 rest) ≡ bytes_of (word k (value_at rest 4)))
-TwoWords rest k place (Err f) = (f.place ≡ place) × (fault_among (k ∷ []) rest 4 ≡ Some f.reason)
+-- words of these kinds stand one after another, from a place on
+abbrev pub WordsStand : List WordKind → List ℕ → ℕ → Type 0
+WordsStand [] rest at = Unit {0}
+WordsStand (k ∷ ks) rest at = (take 4 (drop at rest) ≡ bytes_of (word k (value_at rest at))) × WordsStand ks rest (at + 4)
 
--- the bytes of a first word and two others of these kinds, or the fault of a record that needs them
-abbrev pub ThreeWords : List ℕ → WordKind → WordKind → ℕ → Result (Bor (List ℕ)) Fault → Type 0
-ThreeWords rest k l place (Ok p) =
-    (12 ≤ length rest)
-    × (p.now ≡ take 12 rest)
-    × (take 4 (drop 4 rest) ≡ bytes_of (word k (value_at rest 4)))
-    × (take 4 (drop 8 rest) ≡ bytes_of (word l (value_at rest 8)))
-ThreeWords rest k l place (Err f) = (f.place ≡ place) × (fault_among (k ∷ l ∷ []) rest 4 ≡ Some f.reason)
+-- the bytes of a first word and of others of these kinds, or the fault of a record that needs them
+abbrev pub WordsRead : List ℕ → List WordKind → ℕ → Result (Bor (List ℕ)) Fault → Type 0
+WordsRead rest kinds place (Ok p) =
+    (4 + 4 * length kinds ≤ length rest)
+    × (p.now ≡ take (4 + 4 * length kinds) rest)
+    × WordsStand kinds rest 4
+WordsRead rest kinds place (Err f) = (f.place ≡ place) × (fault_among kinds rest 4 ≡ Some f.reason)

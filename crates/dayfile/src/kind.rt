@@ -3,7 +3,7 @@ ghost use Rattle.std.specs.Prelude.{◌≡◌};
 ghost use Rattle.dayfile.specs.Kinds.{word_kind_number, word_kind_of};
 
 // What a word's value is. Unit, prior close and tag make a start; limit and stop follow an order.
-#[derive(Clone, Copy)]
+#[derive(Clone, Copy, PartialEq, Eq, Debug)]
 pub enum WordKind {
     Time,
     Order,
