@@ -1,4 +1,5 @@
 // The sum of shares by side, over no record, some, and one more than counts.
+use ledger::fill::Fill;
 use ledger::row::JournalRow;
 use market::side::{MarketSide, Side};
 use market::sided::{Sided, shares_on};
@@ -55,9 +56,11 @@ fn none_and_some(rt: HostRuntime) {
 #[test]
 fn too_many(rt: HostRuntime) -> Result<(), Fail> {
     let row = JournalRow {
-        side: Side::SellShort,
-        shares: 2,
-        price: 1,
+        fill: Fill {
+            side: Side::SellShort,
+            shares: 2,
+            price: 1,
+        },
     };
     let rows = vec![in rt.alloc(); row; 65_537]?;
     assert_eq!(rt; shares_on(rows.as_slice(), MarketSide::Selling), 131_072);

@@ -1,18 +1,19 @@
-// Every number, both ways.
+// Every number, both ways, and the names of sides and kinds.
 use market::kind::Kind;
 use market::mark::Mark;
-use market::numbered::Numbered;
+use market::numbered::UnknownNumber;
 use market::refusal::Refusal;
 use market::side::{MarketSide, Side};
+use std::test::Fail;
 
 #[test]
 fn sides(rt: HostRuntime) {
     for (n, side) in [(1, Side::Buy), (2, Side::SellLong), (3, Side::SellShort)] {
-        assert_eq!(rt; side.number(), n);
-        assert_eq!(rt; Side::from_number(n), Some(side));
+        assert_eq!(rt; u32::from(side), n);
+        assert_eq!(rt; Side::try_from(n), Ok(side));
     }
     for n in [0, 4, 258, u32::MAX] {
-        assert_eq!(rt; Side::from_number(n), None);
+        assert_eq!(rt; Side::try_from(n), Err(UnknownNumber(n)));
     }
     assert_eq!(rt; Side::Buy.market_side(), MarketSide::Buying);
     assert_eq!(rt; Side::SellLong.market_side(), MarketSide::Selling);
@@ -27,11 +28,11 @@ fn kinds(rt: HostRuntime) {
         (3, Kind::Stop),
         (4, Kind::StopLimit),
     ] {
-        assert_eq!(rt; kind.number(), n);
-        assert_eq!(rt; Kind::from_number(n), Some(kind));
+        assert_eq!(rt; u32::from(kind), n);
+        assert_eq!(rt; Kind::try_from(n), Ok(kind));
     }
     for n in [0, 5, 257, u32::MAX] {
-        assert_eq!(rt; Kind::from_number(n), None);
+        assert_eq!(rt; Kind::try_from(n), Err(UnknownNumber(n)));
     }
 }
 
@@ -46,11 +47,11 @@ fn marks(rt: HostRuntime) {
         (6, Mark::Lapse),
     ];
     for (n, mark) in table {
-        assert_eq!(rt; mark.number(), n);
-        assert_eq!(rt; Mark::from_number(n), Some(mark));
+        assert_eq!(rt; u32::from(mark), n);
+        assert_eq!(rt; Mark::try_from(n), Ok(mark));
     }
     for n in [0, 7, 262, u32::MAX] {
-        assert_eq!(rt; Mark::from_number(n), None);
+        assert_eq!(rt; Mark::try_from(n), Err(UnknownNumber(n)));
     }
 }
 
@@ -77,10 +78,39 @@ fn refusals(rt: HostRuntime) {
         (18, Refusal::OutputShort),
     ];
     for (n, refusal) in table {
-        assert_eq!(rt; refusal.number(), n);
-        assert_eq!(rt; Refusal::from_number(n), Some(refusal));
+        assert_eq!(rt; u32::from(refusal), n);
+        assert_eq!(rt; Refusal::try_from(n), Ok(refusal));
     }
     for n in [0, 19, 31, u32::MAX] {
-        assert_eq!(rt; Refusal::from_number(n), None);
+        assert_eq!(rt; Refusal::try_from(n), Err(UnknownNumber(n)));
     }
+}
+
+#[test]
+fn names(rt: HostRuntime) -> Result<(), Fail> {
+    for (side, name) in [
+        (Side::Buy, "buy"),
+        (Side::SellLong, "sell long"),
+        (Side::SellShort, "sell short"),
+    ] {
+        assert_eq!(rt; side.to_string(rt.alloc())?.as_str(), name);
+    }
+    for (kind, name) in [
+        (Kind::Market, "market"),
+        (Kind::Limit, "limit"),
+        (Kind::Stop, "stop"),
+        (Kind::StopLimit, "stop limit"),
+    ] {
+        assert_eq!(rt; kind.to_string(rt.alloc())?.as_str(), name);
+    }
+    Ok(())
+}
+
+#[test]
+fn unknown_numbers(rt: HostRuntime) -> Result<(), Fail> {
+    let unknown = UnknownNumber(258);
+    assert_eq!(rt; Refusal::from(unknown), Refusal::BadField);
+    let text = unknown.to_string(rt.alloc())?;
+    assert_eq!(rt; text.as_str(), "no term has the number 258");
+    Ok(())
 }

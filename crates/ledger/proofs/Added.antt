@@ -92,14 +92,14 @@ apart : (s z : ℤ) (a b : ℕ) → z ≡ pos a -ℤ pos b → s -ℤ z ≡ s -�
 apart s z a b h = omega (arith, ints)
 
 -- a start less the signed sum, from the two sums by side
-pub shares_by : (s : ℤ) (rows written : List JournalRow) (a b : ℕ) → rows ≡ counted written → a ≡ sum_on (λ r. r.side) (λ r. r.shares) Buying (counted rows) → b ≡ sum_on (λ r. r.side) (λ r. r.shares) Selling (counted rows) → s -ℤ sum_z owed_of (counted written) ≡ s -ℤ pos a +ℤ pos b
+pub shares_by : (s : ℤ) (rows written : List JournalRow) (a b : ℕ) → rows ≡ counted written → a ≡ sum_on (λ r. r.fill.side) (λ r. r.fill.shares) Buying (counted rows) → b ≡ sum_on (λ r. r.fill.side) (λ r. r.fill.shares) Selling (counted rows) → s -ℤ sum_z owed_of (counted written) ≡ s -ℤ pos a +ℤ pos b
 shares_by s rows written a b e p q =
     let all : counted rows ≡ counted written = ap counted e ∙ counted_twice written in
     let l = counted written in
     apart s (sum_z owed_of l) a b
-    (by_sides (λ r. r.side) (λ r. r.shares) l
-    ∙ ap (λ t. pos t -ℤ pos (sum_on (λ r. r.side) (λ r. r.shares) Selling l)) (sym (p ∙ ap (sum_on (λ r. r.side) (λ r. r.shares) Buying) all))
-    ∙ ap (λ t. pos a -ℤ pos t) (sym (q ∙ ap (sum_on (λ r. r.side) (λ r. r.shares) Selling) all)))
+    (by_sides (λ r. r.fill.side) (λ r. r.fill.shares) l
+    ∙ ap (λ t. pos t -ℤ pos (sum_on (λ r. r.fill.side) (λ r. r.fill.shares) Selling l)) (sym (p ∙ ap (sum_on (λ r. r.fill.side) (λ r. r.fill.shares) Buying) all))
+    ∙ ap (λ t. pos a -ℤ pos t) (sym (q ∙ ap (sum_on (λ r. r.fill.side) (λ r. r.fill.shares) Selling) all)))
 
 -- one place less
 pub place_used : (good : Bool) (m u : ℕ) → cond good (m - (u + 1)) 0 ≡ cond good (m - u) 0 - 1

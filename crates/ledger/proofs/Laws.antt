@@ -11,15 +11,16 @@ use Rattle.market.specs.declared.refusal.Refusal.{Refusal}
 use Rattle.market.specs.declared.refusal.Refusal.TheVariants.{BadField, LedgerFull}
 use Rattle.market.specs.declared.side.Side.{Side}
 use Rattle.market.specs.declared.side.Side.TheVariants.{Buy, SellLong, SellShort}
+use Rattle.market.specs.declared.side.MarketSide.{MarketSide}
 use Rattle.market.specs.declared.side.MarketSide.TheVariants.{Buying, Selling}
 use Rattle.ledger.specs.Posting.{Numbers, Agree, Posted, answer_of, in_field, moved, refusal_of, settled_by, signed}
-use Rattle.ledger.specs.Law.{AddsUp, MovedBy, fits, judged, no_posting, outcome_of, accepted}
-use Rattle.ledger.specs.declared.postings.Outcome.{Outcome}
+use Rattle.ledger.specs.Law.{AddsUp, MovedBy, fits, judged, no_posting, accepted}
+use Rattle.ledger.specs.declared.fill.Fill.{Fill}
 use Rattle.ledger.specs.declared.postings.Posting.{Posting}
 
--- a posting with its outcome noted
-abbrev pub noted : Posting → Outcome → Posting
-noted x o = record { side = x.side; shares = x.shares; price = x.price; outcome = o }
+-- a posting with its answer noted
+abbrev pub noted : Posting → Result (Unit {0}) Refusal → Posting
+noted x r = record { fill = x.fill; answer = Some r }
 
 -- a signed number by the two sides of the market
 split : (s : Side) (n : ℕ) → signed s (pos n) ≡ pos (0 + shares_on Buying s n) -ℤ pos (0 + shares_on Selling s n)
@@ -34,81 +35,85 @@ raise : (a b d : ℤ) (m n : ℕ) → a ≡ b +ℤ d → d ≡ pos m -ℤ pos n 
 raise a b d m n p q = omega (arith, ints)
 
 -- an accepted post finds a place
-has_place : (places n p : ℕ) → None ≡ refusal_of places n p → 0 < places
-has_place places n p e = grind (arith, nat_tests)
+has_place : (places : ℕ) (f : Fill) → None ≡ refusal_of places f → 0 < places
+has_place places f e = grind (arith, nat_tests)
 
 same : (a b : ℤ) → a ≡ b → a ≡ b +ℤ (pos 0 -ℤ pos 0)
 same a b h = omega (arith, ints)
 
 -- an accepted post moves a ledger by its record
-pub moved_one : {X : Type 0} (side : X → Side) (shares price : X → ℕ) (x : X) (before after : Numbers) → Agree after (moved (side x) (shares x) (price x) before) → 0 < before.places → MovedBy side shares price before (x ∷ []) after
-moved_one side shares price x before after a one =
+pub moved_one : {X : Type 0} (fill : X → Fill) (x : X) (before after : Numbers) → Agree after (moved (fill x) before) → 0 < before.places → MovedBy fill before (x ∷ []) after
+moved_one fill x before after a one =
     let left = a.places in
+    let s = (fill x).side in
+    let n = (fill x).shares in
+    let m = (fill x).shares * (fill x).price in
     record {
-      shares_move = lower after.shares before.shares (signed (side x) (pos (shares x))) (0 + shares_on Buying (side x) (shares x)) (0 + shares_on Selling (side x) (shares x)) a.shares (split (side x) (shares x));
-      money_moves = raise after.money before.money (signed (side x) (pos (shares x * price x))) (0 + shares_on Buying (side x) (shares x * price x)) (0 + shares_on Selling (side x) (shares x * price x)) a.money (split (side x) (shares x * price x));
+      shares_move = lower after.shares before.shares (signed s (pos n)) (0 + shares_on Buying s n) (0 + shares_on Selling s n) a.shares (split s n);
+      money_moves = raise after.money before.money (signed s (pos m)) (0 + shares_on Buying s m) (0 + shares_on Selling s m) a.money (split s m);
       places_fall = omega arith;
     }
 
 -- and a refused one by none
-pub moved_none : {X : Type 0} (side : X → Side) (shares price : X → ℕ) (before after : Numbers) → Agree after before → MovedBy side shares price before [] after
-moved_none side shares price before after a =
+pub moved_none : {X : Type 0} (fill : X → Fill) (before after : Numbers) → Agree after before → MovedBy fill before [] after
+moved_none fill before after a =
     record {
       shares_move = same after.shares before.shares a.shares;
       money_moves = same after.money before.money a.money;
       places_fall = let left = a.places in omega arith;
     }
 
-by_reason : (o : Option Refusal) (x : Posting) (before after : Numbers) → o ≡ refusal_of before.places x.shares x.price → Agree after (settled_by o x.side x.shares x.price before) → AddsUp before (noted x (outcome_of (answer_of o)) ∷ []) after
+by_reason : (o : Option Refusal) (x : Posting) (before after : Numbers) → o ≡ refusal_of before.places x.fill → Agree after (settled_by o x.fill before) → AddsUp before (noted x (answer_of o) ∷ []) after
 by_reason None x before after e a =
-    moved_one (λ x. x.side) (λ x. x.shares) (λ x. x.price) (noted x (outcome_of (answer_of None))) before after a (has_place before.places x.shares x.price e)
-by_reason (Some r) x before after e a = moved_none (λ x. x.side) (λ x. x.shares) (λ x. x.price) before after a
+    moved_one (λ x. x.fill) (noted x (answer_of None)) before after a (has_place before.places x.fill e)
+by_reason (Some r) x before after e a = moved_none (λ x. x.fill) before after a
 
 -- a post with its fields in range to a ledger with a place is accepted
-pub posted_moves : (side : Side) (n p : ℕ) (before after : Numbers) (r : Result (Unit {0}) Refusal) → Posted side n p before r after → in_field n p ≡ true → 0 < before.places → Agree after (moved side n p before)
-posted_moves side n p before after r h fields room =
+pub posted_moves : (f : Fill) (before after : Numbers) (r : Result (Unit {0}) Refusal) → Posted f before r after → in_field f.shares f.price ≡ true → 0 < before.places → Agree after (moved f before)
+posted_moves f before after r h fields room =
     let some : eqb before.places 0 ≡ false = ne_eqb before.places 0 (λ z. omega arith) in
-    let none : refusal_of before.places n p ≡ None = cond-true (in_field n p) (cond (eqb before.places 0) (Some LedgerFull) None) (Some BadField) fields ∙ cond-false (eqb before.places 0) (Some LedgerFull) None some in
-    subst (λ (o : Option Refusal). Agree after (settled_by o side n p before)) none h.moves
+    let none : refusal_of before.places f ≡ None = cond-true (in_field f.shares f.price) (cond (eqb before.places 0) (Some LedgerFull) None) (Some BadField) fields ∙ cond-false (eqb before.places 0) (Some LedgerFull) None some in
+    subst (λ (o : Option Refusal). Agree after (settled_by o f before)) none h.moves
 
 -- the law for one posting
-pub adds_one : (x : Posting) (before after : Numbers) (r : Result (Unit {0}) Refusal) (o : Outcome) → o ≡ outcome_of r → Posted x.side x.shares x.price before r after → AddsUp before (noted x o ∷ []) after
-adds_one x before after r o e h =
-    subst (λ (q : Outcome). AddsUp before (noted x q ∷ []) after) (sym (e ∙ ap outcome_of h.answer))
-    (by_reason (refusal_of before.places x.shares x.price) x before after refl h.moves)
+pub adds_one : (x : Posting) (before after : Numbers) (r : Result (Unit {0}) Refusal) → Posted x.fill before r after → AddsUp before (noted x r ∷ []) after
+adds_one x before after r h =
+    subst (λ (q : Result (Unit {0}) Refusal). AddsUp before (noted x q ∷ []) after) (sym h.answer)
+    (by_reason (refusal_of before.places x.fill) x before after refl h.moves)
 
 -- a posting in range uses a place where there is one
-elim_fits : (f z : Bool) (before after : Numbers) (side : Side) (n p : ℕ) → ((z ≡ true) × (before.places ≡ 0)) ⊎ ((z ≡ false) × (before.places ≡ 0 → ⊥)) → after.places ≡ (settled_by (cond f (cond z (Some LedgerFull) None) (Some BadField)) side n p before).places → after.places ≡ before.places - cond f 1 0
-elim_fits false z before after side n p t e = omega arith
-elim_fits true true before after side n p (inl t) e = omega (arith, t.1)
-elim_fits true true before after side n p (inr t) e = let z : ◌≡◌ {A = ℕ} 0 1 = cc in omega arith
-elim_fits true false before after side n p t e = omega arith
+elim_fits : (f z : Bool) (before after : Numbers) (x : Fill) → ((z ≡ true) × (before.places ≡ 0)) ⊎ ((z ≡ false) × (before.places ≡ 0 → ⊥)) → after.places ≡ (settled_by (cond f (cond z (Some LedgerFull) None) (Some BadField)) x before).places → after.places ≡ before.places - cond f 1 0
+elim_fits false z before after x t e = omega arith
+elim_fits true true before after x (inl t) e = omega (arith, t.1)
+elim_fits true true before after x (inr t) e = let z : ◌≡◌ {A = ℕ} 0 1 = cc in omega arith
+elim_fits true false before after x t e = omega arith
 
-pub places_fall : (x : Posting) (before after : Numbers) (r : Result (Unit {0}) Refusal) → Posted x.side x.shares x.price before r after → after.places ≡ before.places - cond (fits x) 1 0
+pub places_fall : (x : Posting) (before after : Numbers) (r : Result (Unit {0}) Refusal) → Posted x.fill before r after → after.places ≡ before.places - cond (fits x) 1 0
 places_fall x before after r h =
     let e = h.moves.places in
-    elim_fits (fits x) (eqb before.places 0) before after x.side x.shares x.price (eqb_tells before.places 0) e
+    elim_fits (fits x) (eqb before.places 0) before after x.fill (eqb_tells before.places 0) e
 
 over : (a b c : ℤ) (p q r s t u : ℕ) → b ≡ a +ℤ (pos p -ℤ pos q) → c ≡ b +ℤ (pos r -ℤ pos s) → t ≡ p + r → u ≡ q + s → c ≡ a +ℤ (pos t -ℤ pos u)
 over a b c p q r s t u h k m n = omega (arith, ints)
 
 -- moved by one list after another
-pub moved_both : {X : Type 0} (side : X → Side) (shares price : X → ℕ) (a b c : Numbers) (xs ys : List X) → MovedBy side shares price a xs b → MovedBy side shares price b ys c → MovedBy side shares price a (xs ++ ys) c
-moved_both side shares price a b c xs ys h k =
+pub moved_both : {X : Type 0} (fill : X → Fill) (a b c : Numbers) (xs ys : List X) → MovedBy fill a xs b → MovedBy fill b ys c → MovedBy fill a (xs ++ ys) c
+moved_both fill a b c xs ys h k =
     let n = length-append xs ys in
     let p = h.places_fall in
     let q = k.places_fall in
+    let both = λ (which : MarketSide) (f : Fill → ℕ). sum_by-append (λ x. shares_on which (fill x).side (f (fill x))) xs ys in
     record {
-      shares_move = over a.shares b.shares c.shares _ _ _ _ _ _ h.shares_move k.shares_move (sum_by-append (λ x. shares_on Selling (side x) (shares x)) xs ys) (sum_by-append (λ x. shares_on Buying (side x) (shares x)) xs ys);
-      money_moves = over a.money b.money c.money _ _ _ _ _ _ h.money_moves k.money_moves (sum_by-append (λ x. shares_on Buying (side x) (shares x * price x)) xs ys) (sum_by-append (λ x. shares_on Selling (side x) (shares x * price x)) xs ys);
+      shares_move = over a.shares b.shares c.shares _ _ _ _ _ _ h.shares_move k.shares_move (both Selling (λ f. f.shares)) (both Buying (λ f. f.shares));
+      money_moves = over a.money b.money c.money _ _ _ _ _ _ h.money_moves k.money_moves (both Buying (λ f. f.shares * f.price)) (both Selling (λ f. f.shares * f.price));
       places_fall = omega (arith, n);
     }
 
 -- the law for one list after another
 pub adds_both : (a b c : Numbers) (xs ys : List Posting) → AddsUp a xs b → AddsUp b ys c → AddsUp a (xs ++ ys) c
 adds_both a b c xs ys h k =
-    subst (λ (zs : List Posting). MovedBy (λ x. x.side) (λ x. x.shares) (λ x. x.price) a zs c) (sym (filter-append accepted xs ys))
-    (moved_both (λ x. x.side) (λ x. x.shares) (λ x. x.price) a b c (filter accepted xs) (filter accepted ys) h k)
+    subst (λ (zs : List Posting). MovedBy (λ x. x.fill) a zs c) (sym (filter-append accepted xs ys))
+    (moved_both (λ x. x.fill) a b c (filter accepted xs) (filter accepted ys) h k)
 
 -- a loop's step over a list that is written in place: the law
 pub adds_more : (a b c : Numbers) (xs : List Posting) (i : ℕ) (y : Posting) → i < length xs → AddsUp a (take i xs) b → AddsUp b (y ∷ []) c → AddsUp a (take (i + 1) (set xs i y)) c

@@ -1,13 +1,14 @@
 -- The bounds of a ledger's numbers.
 use Rattle.std.specs.Prelude.{ℕ, ◌+◌, ◌-◌, ◌*◌, ◌≤◌, ℤ, pos, neg_ℤ, ◌≤ℤ◌}
+use Rattle.ledger.specs.Posting.{Numbers}
 
 -- z lies between -b and b
 abbrev pub Within : ℕ → ℤ → Type 0
 Within b z = (neg_ℤ (pos b) ≤ℤ z) × (z ≤ℤ pos b)
 
 -- the bound of every ledger's shares and money: 4 × 10^18
-abbrev pub Bounded : ℤ → ℤ → Type 0
-Bounded shares money = Within 4000000000000000000 shares × Within 4000000000000000000 money
+abbrev pub Bounded : Numbers → Type 0
+Bounded n = Within 4000000000000000000 n.shares × Within 4000000000000000000 n.money
 
 -- a ledger may start from these numbers: 10^9 shares and 10^17 of money, either way
 abbrev pub MayStart : ℤ → ℤ → Type 0

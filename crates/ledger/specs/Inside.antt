@@ -8,7 +8,7 @@ use Rattle.market.specs.declared.side.Side.TheVariants.{Buy, SellLong, SellShort
 use Rattle.ledger.specs.Bounds.{Within, Bounded}
 use Rattle.ledger.specs.Posting.{signed}
 use Rattle.ledger.specs.Sums.{sum_z}
-use Rattle.ledger.specs.Journals.{owed_of, paid_of, written_of, shares_of, money_of}
+use Rattle.ledger.specs.Journals.{owed_of, paid_of, written_of, numbers_of}
 use Rattle.ledger.specs.declared.journal.Journal.{Journal}
 use Rattle.ledger.specs.declared.row.JournalRow.{JournalRow}
 
@@ -33,10 +33,10 @@ signed_within SellLong n b h = (omega (arith, ints), omega (arith, ints))
 signed_within SellShort n b h = (omega (arith, ints), omega (arith, ints))
 
 pub owed_within : (r : JournalRow) → Within 99 (owed_of r)
-owed_within r = signed_within r.side r.shares 99 r.ok.0
+owed_within r = signed_within r.fill.side r.fill.shares 99 r.few
 
 pub paid_within : (r : JournalRow) → Within 19800000000 (paid_of r)
-paid_within r = signed_within r.side (r.shares * r.price) 19800000000 (mul-le-mul r.ok.0 r.ok.1)
+paid_within r = signed_within r.fill.side (r.fill.shares * r.fill.price) 19800000000 (mul-le-mul r.few r.cheap)
 
 far : (s z : ℤ) (n : ℕ) → n ≤ 65536 → Within 1000000000 s → Within (99 * n) z → Within 4000000000000000000 (s -ℤ z)
 far s z n h p q = (omega (arith, ints), omega (arith, ints))
@@ -49,7 +49,7 @@ unfolding counted
 few_counted xs = simp length-take (omega arith)
 
 -- a journal stays within the bound
-pub journal_bounded : (j : Journal) → Bounded (shares_of j) (money_of j)
+pub journal_bounded : (j : Journal) → Bounded (numbers_of j)
 journal_bounded j =
     let few = few_counted (take j.used j.rows.now) in (
       far j.start.now.shares (sum_z owed_of (written_of j)) (length (written_of j)) few j.start.now.ok.0 (sum_z_within owed_of 99 owed_within (written_of j)),

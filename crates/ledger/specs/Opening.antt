@@ -19,8 +19,12 @@ Started shares money (Err e) s =
 abbrev pub starts_at : Start → ℕ → Numbers
 starts_at s n = record { shares = s.shares; money = s.money; places = cond s.good n 0 }
 
+-- what a totals ledger means
+abbrev pub totals_numbers : Totals → Numbers
+totals_numbers t = record { shares = t.shares; money = t.money; places = t.left }
+
 -- a totals ledger stays within the bound. The proof is a ghost member of its ledger, so it stands here
-pub totals_bounded : (t : Totals) → Bounded t.shares t.money
+pub totals_bounded : (t : Totals) → Bounded (totals_numbers t)
 totals_bounded t =
     let ok : Runs t.shares t.money t.left = t.ok in
     ((omega (arith, ints), omega (arith, ints)), (omega (arith, ints), omega (arith, ints)))

@@ -5,6 +5,7 @@ use Rattle.market.specs.Terms.{market_side}
 use Rattle.market.specs.declared.side.Side.{Side}
 use Rattle.market.specs.declared.side.MarketSide.{MarketSide}
 use Rattle.market.specs.declared.side.MarketSide.TheVariants.{Buying, Selling}
+use Rattle.ledger.specs.declared.fill.Fill.{Fill}
 use Rattle.market.specs.declared.refusal.Refusal.{Refusal}
 use Rattle.market.specs.declared.refusal.Refusal.TheVariants.{BadField, LedgerFull}
 
@@ -14,17 +15,13 @@ pub record Numbers : Type 0 where
   pub money : ℤ
   pub places : ℕ
 
--- the numbers of a ledger x, by its three ghost members
-abbrev pub numbers : {X : Type 0} → (X → ℤ) → (X → ℤ) → (X → ℕ) → X → Numbers
-numbers shares money places x = record { shares = shares x; money = money x; places = places x }
-
 -- n shares at the price p may be posted
 abbrev pub in_field : ℕ → ℕ → Bool
 in_field n p = is_postable n && is_price p
 
--- why a ledger with so many places refuses a post of n shares at the price p: the first reason that fits, if any
-abbrev pub refusal_of : ℕ → ℕ → ℕ → Option Refusal
-refusal_of places n p = cond (in_field n p) (cond (places == 0) (Some LedgerFull) None) (Some BadField)
+-- why a ledger with so many places refuses a fill: the first reason that fits, if any
+abbrev pub refusal_of : ℕ → Fill → Option Refusal
+refusal_of places f = cond (in_field f.shares f.price) (cond (places == 0) (Some LedgerFull) None) (Some BadField)
 
 -- z on the buying side of the market, and its negative on the selling side
 abbrev pub signed_on : MarketSide → ℤ → ℤ
@@ -36,9 +33,13 @@ abbrev pub signed : Side → ℤ → ℤ
 signed side z = signed_on (market_side side) z
 
 -- an accepted post: a customer's buy lowers the shares and raises the money, a sell the reverse; a place is used
-abbrev pub moved : Side → ℕ → ℕ → Numbers → Numbers
-moved side n p x =
-    record { shares = x.shares -ℤ signed side (pos n); money = x.money +ℤ signed side (pos (n * p)); places = x.places - 1 }
+abbrev pub moved : Fill → Numbers → Numbers
+moved f x =
+    record {
+      shares = x.shares -ℤ signed f.side (pos f.shares);
+      money = x.money +ℤ signed f.side (pos (f.shares * f.price));
+      places = x.places - 1;
+    }
 
 -- the answer of a post, by the reason to refuse it
 abbrev pub answer_of : Option Refusal → Result (Unit {0}) Refusal
@@ -46,13 +47,13 @@ answer_of None = Ok tt
 answer_of (Some e) = Err e
 
 -- the numbers after a post, by the reason to refuse it: a refused one changes nothing
-abbrev pub settled_by : Option Refusal → Side → ℕ → ℕ → Numbers → Numbers
-settled_by None side n p x = moved side n p x
-settled_by (Some e) side n p x = x
+abbrev pub settled_by : Option Refusal → Fill → Numbers → Numbers
+settled_by None f x = moved f x
+settled_by (Some e) f x = x
 
 -- the numbers after a post
-abbrev pub posted : Side → ℕ → ℕ → Numbers → Numbers
-posted side n p x = settled_by (refusal_of x.places n p) side n p x
+abbrev pub posted : Fill → Numbers → Numbers
+posted f x = settled_by (refusal_of x.places f) f x
 
 -- the three numbers agree
 pub record Agree (x y : Numbers) : Type 0 where
@@ -61,6 +62,6 @@ pub record Agree (x y : Numbers) : Type 0 where
   pub places : x.places ≡ y.places
 
 -- what a post answers and does
-pub record Posted (side : Side) (n p : ℕ) (before : Numbers) (r : Result (Unit {0}) Refusal) (after : Numbers) : Type 0 where
-  pub answer : r ≡ answer_of (refusal_of before.places n p)
-  pub moves : Agree after (posted side n p before)
+pub record Posted (f : Fill) (before : Numbers) (r : Result (Unit {0}) Refusal) (after : Numbers) : Type 0 where
+  pub answer : r ≡ answer_of (refusal_of before.places f)
+  pub moves : Agree after (posted f before)

@@ -1,18 +1,10 @@
-// The amounts of a posting.
+// What a fill adds to a signed sum.
 ghost use Rattle.std.specs.Prelude.{◌≡◌, ◌*◌, ◌≤◌, pos};
 ghost use Rattle.ledger.specs.Bounds.{Within};
 ghost use Rattle.ledger.specs.Posting.{signed};
 
+use crate::fill::Fill;
 use market::side::{MarketSide, Side};
-
-// The money of a posting.
-pub(crate) fn amount(quantity: u32, price: u32) -> u64
-    requires { (quantity ≤ 99) × (price ≤ 200000000) }
-    ensures value { result ≡ quantity * price }
-    ensures bound { result ≤ 19800000000 }
-{
-    quantity as u64 * price as u64
-}
 
 // A number as a customer's buy counts it, and its negative for a sell.
 pub(crate) fn by_side(side: Side, n: u64) -> i64
@@ -24,4 +16,14 @@ pub(crate) fn by_side(side: Side, n: u64) -> i64
         MarketSide::Buying => n as i64,
         MarketSide::Selling => -(n as i64),
     }
+}
+
+// What a fill adds to the money.
+pub(crate) fn paid(fill: Fill) -> i64
+    requires few { fill.shares ≤ 99 }
+    requires cheap { fill.price ≤ 200000000 }
+    ensures value { result ≡ signed fill.side (pos (fill.shares * fill.price)) }
+    ensures bound { Within 19800000000 result }
+{
+    by_side(fill.side, fill.money())
 }

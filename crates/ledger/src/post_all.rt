@@ -1,36 +1,24 @@
 // Postings in turn, to any ledger.
 ghost use Rattle.std.specs.Prelude.{◌≡◌, ◌-◌, [], ◌∷◌, if◌then◌else◌};
-ghost use Rattle.ledger.specs.Law.{AddsUp, Judged, fits, judged, outcome_of};
-ghost use Rattle.ledger.specs.Posting.{numbers};
+ghost use Rattle.ledger.specs.Law.{AddsUp, Judged, fits, judged};
 
 use crate::posting::Ledger;
-use crate::postings::{Outcome, Posting};
-use market::refusal::Refusal;
+use crate::postings::Posting;
 
-// What became of a posting that got this answer.
-fn outcome_of(answer: Result<(), Refusal>) -> Outcome
-    ensures { result ≡ outcome_of answer }
-{
-    match answer {
-        Ok(()) => Outcome::Accepted,
-        Err(refusal) => Outcome::Refused(refusal),
-    }
-}
-
-// Posts one, and notes what became of it.
+// Posts one, and notes the answer.
 fn post_one<L: Ledger>(ledger: &mut L, posting: &mut Posting)
-    ensures outcome { posting.new ≡ judged (L.places ledger.old) posting.old }
-    ensures places { L.places ledger.new ≡ L.places ledger.old - (if fits posting.old then 1 else 0) }
-    ensures law { AddsUp (numbers L.shares L.money L.places ledger.old) (posting.new ∷ []) (numbers L.shares L.money L.places ledger.new) }
+    ensures answer { posting.new ≡ judged (L.numbers ledger.old).places posting.old }
+    ensures places { (L.numbers ledger.new).places ≡ (L.numbers ledger.old).places - (if fits posting.old then 1 else 0) }
+    ensures law { AddsUp (L.numbers ledger.old) (posting.new ∷ []) (L.numbers ledger.new) }
 {
-    let answer = ledger.post(posting.side, posting.shares, posting.price);
-    posting.outcome = outcome_of(answer);
+    let answer = ledger.post(posting.fill);
+    posting.answer = Some(answer);
 }
 
 // Posts each of a list in turn, and notes in it what became of each.
 pub fn post_all<L: Ledger>(ledger: &mut L, postings: &mut [Posting])
-    ensures outcomes { Judged (L.places ledger.old) postings.old postings.new }
-    ensures law { AddsUp (numbers L.shares L.money L.places ledger.old) postings.new (numbers L.shares L.money L.places ledger.new) }
+    ensures outcomes { Judged (L.numbers ledger.old).places postings.old postings.new }
+    ensures law { AddsUp (L.numbers ledger.old) postings.new (L.numbers ledger.new) }
 {
     for posting in postings.iter_mut() {
         post_one(ledger, posting);

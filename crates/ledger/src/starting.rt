@@ -10,10 +10,8 @@ impl Start {
     pub fn new(shares: i64, money: i64) -> (Start, Result<(), Refusal>)
         ensures { Started shares money result.1 result.0 }
     {
-        if -1_000_000_000 <= shares
-            && shares <= 1_000_000_000
-            && -100_000_000_000_000_000 <= money
-            && money <= 100_000_000_000_000_000
+        if (-1_000_000_000..=1_000_000_000).contains(&shares)
+            && (-100_000_000_000_000_000..=100_000_000_000_000_000).contains(&money)
         {
             (
                 Start {

@@ -1,3 +1,4 @@
 pub mod Terms
+pub mod Names
 pub mod Limits
 pub mod Sums

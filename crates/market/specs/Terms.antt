@@ -1,5 +1,6 @@
 -- The terms that the rules give numbers to. Each number stands here once, and every promise uses it from here.
-use Rattle.std.specs.Prelude.{◌≡◌, ℕ, Some, None, Option, ◌≢◌}
+use Rattle.std.specs.Prelude.{◌≡◌, ℕ, Bool, true, false, Ok, Err, Result, ◌≢◌}
+use Rattle.market.specs.declared.numbered.UnknownNumber.{UnknownNumber}
 use Rattle.market.specs.declared.side.Side.{Side}
 use Rattle.market.specs.declared.side.Side.TheVariants.{Buy, SellLong, SellShort}
 use Rattle.market.specs.declared.side.MarketSide.{MarketSide}
@@ -11,10 +12,10 @@ use Rattle.market.specs.declared.mark.Mark.TheVariants.{Opening, Sale, Offer, Bi
 use Rattle.market.specs.declared.refusal.Refusal.{Refusal}
 use Rattle.market.specs.declared.refusal.Refusal.TheVariants.{DayClosed, DayUnopened, DayOpen, BadField, TimeEarlier, QuoteCrossed, AcceptedFull, BookFull, NoSuchOrder, OrderInHand, NotForTicket, BadTicket, ReportFull, LedgerFull, FileTooLong, FileCut, BadWord, OutputShort}
 
--- what reading a number gives: the term that has it, and none only where no term has it
-abbrev pub Reads : {X : Type 0} → (X → ℕ) → ℕ → Option X → Type 0
-Reads number n (Some x) = number x ≡ n
-Reads {X} number n None = (x : X) → number x ≢ n
+-- what reading a number gives: the term that has it; and an error, with the number, only where no term has it
+abbrev pub Reads : {X : Type 0} → (X → ℕ) → ℕ → Result X UnknownNumber → Type 0
+Reads number n (Ok x) = number x ≡ n
+Reads {X} number n (Err e) = (e.0 ≡ n) × ((x : X) → number x ≢ n)
 
 abbrev pub side_number : Side → ℕ
 side_number Buy = 1
@@ -32,6 +33,19 @@ kind_number Market = 1
 kind_number Limit = 2
 kind_number Stop = 3
 kind_number StopLimit = 4
+
+-- the kinds that have a limit price, and those that have a stop price
+abbrev pub has_limit : Kind → Bool
+has_limit Market = false
+has_limit Limit = true
+has_limit Stop = false
+has_limit StopLimit = true
+
+abbrev pub has_stop : Kind → Bool
+has_stop Market = false
+has_stop Limit = false
+has_stop Stop = true
+has_stop StopLimit = true
 
 abbrev pub mark_number : Mark → ℕ
 mark_number Opening = 1

@@ -1,35 +1,74 @@
-// The kind of an order.
-ghost use Rattle.market.specs.Terms.{kind_number};
+// The kind of an order, and the prices that it has.
+ghost use Rattle.std.specs.Prelude.{◌≡◌, Some};
+ghost use Rattle.market.specs.Names.{kind_name};
+ghost use Rattle.market.specs.Terms.{Reads, has_limit, has_stop, kind_number};
 
-use crate::numbered::Numbered;
+use crate::numbered::UnknownNumber;
+use std::fmt;
 
 #[derive(Clone, Copy, PartialEq, Eq, Debug)]
 pub enum Kind {
-    Market,
-    Limit,
-    Stop,
-    StopLimit,
+    Market = 1,
+    Limit = 2,
+    Stop = 3,
+    StopLimit = 4,
 }
 
-impl Numbered for Kind {
-    ghost number = { kind_number };
-
-    fn number(self) -> u32 {
+impl Kind {
+    // Whether the kind has a limit price.
+    pub fn has_limit(self) -> bool
+        ensures { result ≡ has_limit self }
+    {
         match self {
-            Kind::Market => 1,
-            Kind::Limit => 2,
-            Kind::Stop => 3,
-            Kind::StopLimit => 4,
+            Kind::Limit | Kind::StopLimit => true,
+            Kind::Market | Kind::Stop => false,
         }
     }
 
-    fn from_number(n: u32) -> Option<Kind> {
-        match n {
-            1 => Some(Kind::Market),
-            2 => Some(Kind::Limit),
-            3 => Some(Kind::Stop),
-            4 => Some(Kind::StopLimit),
-            _ => None,
+    // Whether the kind has a stop price.
+    pub fn has_stop(self) -> bool
+        ensures { result ≡ has_stop self }
+    {
+        match self {
+            Kind::Stop | Kind::StopLimit => true,
+            Kind::Market | Kind::Limit => false,
         }
+    }
+}
+
+impl From<Kind> for u32 {
+    ghost from_gives = { λ kind n. n ≡ kind_number kind };
+
+    fn from(kind: Kind) -> u32 {
+        kind as u32
+    }
+}
+
+impl TryFrom<u32> for Kind {
+    type Error = UnknownNumber;
+
+    ghost try_from_gives = { Reads kind_number };
+
+    fn try_from(n: u32) -> Result<Kind, UnknownNumber> {
+        match n {
+            1 => Ok(Kind::Market),
+            2 => Ok(Kind::Limit),
+            3 => Ok(Kind::Stop),
+            4 => Ok(Kind::StopLimit),
+            _ => Err(UnknownNumber(n)),
+        }
+    }
+}
+
+impl fmt::Display for Kind {
+    ghost output = { λ kind. Some (kind_name kind) };
+
+    fn fmt<W: fmt::Write>(&self, f: &mut fmt::Formatter<W>) -> fmt::Result {
+        f.write_str(match self {
+            Kind::Market => "market",
+            Kind::Limit => "limit",
+            Kind::Stop => "stop",
+            Kind::StopLimit => "stop limit",
+        })
     }
 }

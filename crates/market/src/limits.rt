@@ -6,7 +6,7 @@ ghost use Rattle.market.specs.Limits.{is_price, is_time, is_unit, is_odd_lot, is
 pub fn is_price(p: u32) -> bool
     ensures { result ≡ is_price p }
 {
-    1 <= p && p <= 200_000_000
+    (1..=200_000_000).contains(&p)
 }
 
 // Milliseconds after midnight.
@@ -27,21 +27,21 @@ pub fn is_unit(unit: u32) -> bool
 pub fn is_odd_lot(unit: u32, shares: u32) -> bool
     ensures { result ≡ is_odd_lot unit shares }
 {
-    is_unit(unit) && 1 <= shares && shares < unit
+    is_unit(unit) && (1..unit).contains(&shares)
 }
 
 // The volume of a sale.
 pub fn is_volume(unit: u32, volume: u32) -> bool
     ensures { result ≡ is_volume unit volume }
 {
-    is_unit(unit) && unit <= volume && volume <= 100_000_000
+    is_unit(unit) && (unit..=100_000_000).contains(&volume)
 }
 
 // The tag of a day.
 pub fn is_tag(tag: u32) -> bool
     ensures { result ≡ is_tag tag }
 {
-    1 <= tag && tag <= 268_435_455
+    (1..=268_435_455).contains(&tag)
 }
 
 // Whether one more order may join this many live ones.
@@ -62,5 +62,5 @@ pub fn has_accepted_room(accepted: u32) -> bool
 pub fn is_postable(shares: u32) -> bool
     ensures { result ≡ is_postable shares }
 {
-    1 <= shares && shares <= 99
+    (1..=99).contains(&shares)
 }

@@ -1,41 +1,41 @@
 // What a report row says of its order: by which rule it was filled, or that it lapsed.
-ghost use Rattle.market.specs.Terms.{mark_number};
+ghost use Rattle.std.specs.Prelude.{◌≡◌};
+ghost use Rattle.market.specs.Terms.{Reads, mark_number};
 
-use crate::numbered::Numbered;
+use crate::numbered::UnknownNumber;
 
 #[derive(Clone, Copy, PartialEq, Eq, Debug)]
 pub enum Mark {
-    Opening,
-    Sale,
-    Offer,
-    Bid,
-    Hand,
-    Lapse,
+    Opening = 1,
+    Sale = 2,
+    Offer = 3,
+    Bid = 4,
+    Hand = 5,
+    Lapse = 6,
 }
 
-impl Numbered for Mark {
-    ghost number = { mark_number };
+impl From<Mark> for u32 {
+    ghost from_gives = { λ mark n. n ≡ mark_number mark };
 
-    fn number(self) -> u32 {
-        match self {
-            Mark::Opening => 1,
-            Mark::Sale => 2,
-            Mark::Offer => 3,
-            Mark::Bid => 4,
-            Mark::Hand => 5,
-            Mark::Lapse => 6,
-        }
+    fn from(mark: Mark) -> u32 {
+        mark as u32
     }
+}
 
-    fn from_number(n: u32) -> Option<Mark> {
+impl TryFrom<u32> for Mark {
+    type Error = UnknownNumber;
+
+    ghost try_from_gives = { Reads mark_number };
+
+    fn try_from(n: u32) -> Result<Mark, UnknownNumber> {
         match n {
-            1 => Some(Mark::Opening),
-            2 => Some(Mark::Sale),
-            3 => Some(Mark::Offer),
-            4 => Some(Mark::Bid),
-            5 => Some(Mark::Hand),
-            6 => Some(Mark::Lapse),
-            _ => None,
+            1 => Ok(Mark::Opening),
+            2 => Ok(Mark::Sale),
+            3 => Ok(Mark::Offer),
+            4 => Ok(Mark::Bid),
+            5 => Ok(Mark::Hand),
+            6 => Ok(Mark::Lapse),
+            _ => Err(UnknownNumber(n)),
         }
     }
 }

@@ -1,16 +1,19 @@
-// Terms that the rules give a number to.
-ghost use Rattle.std.specs.Prelude.{◌≡◌, ℕ};
-ghost use Rattle.market.specs.Terms.{Reads};
+// The numbers of terms. They stand for the terms where lines, files and reports carry them.
+ghost use Rattle.std.specs.Prelude.{Some, codes, decimal, ◌++◌};
 
-// A term with a number: the number stands for the term where lines, files and reports carry it.
-pub trait Numbered: Sized {
-    // the number of each term, one definition in specs/
-    ghost number: { Self → ℕ };
+use std::error::Error;
+use std::fmt;
 
-    fn number(self) -> u32
-        ensures { result ≡ number self };
+// A number that no term of a kind has.
+#[derive(Clone, Copy, PartialEq, Eq, Debug)]
+pub struct UnknownNumber(pub u32);
 
-    // The term with this number, or none where no term has it.
-    fn from_number(n: u32) -> Option<Self>
-        ensures { Reads number n result };
+impl fmt::Display for UnknownNumber {
+    ghost output = { λ e. Some (codes "no term has the number " ++ decimal e.0) };
+
+    fn fmt<W: fmt::Write>(&self, f: &mut fmt::Formatter<W>) -> fmt::Result {
+        write!(f, "no term has the number {}", self.0)
+    }
 }
+
+impl Error for UnknownNumber {}

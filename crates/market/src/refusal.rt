@@ -1,95 +1,93 @@
 // Why a call is refused: the whole list, by name. Of several that fit, a call gives the first.
-ghost use Rattle.market.specs.Terms.{refusal_number};
+ghost use Rattle.std.specs.Prelude.{◌≡◌};
+ghost use Rattle.market.specs.Terms.{Reads, refusal_number};
+ghost use Rattle.market.specs.declared.refusal.Refusal.TheVariants.{BadField};
 
-use crate::numbered::Numbered;
+use crate::numbered::UnknownNumber;
 
 #[derive(Clone, Copy, PartialEq, Eq, Debug)]
 pub enum Refusal {
     // the day is closed
-    DayClosed,
+    DayClosed = 1,
     // the day is unopened
-    DayUnopened,
+    DayUnopened = 2,
     // the day is already open
-    DayOpen,
+    DayOpen = 3,
     // a field is out of its range, or a price goes against the kind
-    BadField,
+    BadField = 4,
     // the time is earlier than the clock's
-    TimeEarlier,
+    TimeEarlier = 5,
     // bid and offer are both there and the bid is not below the offer
-    QuoteCrossed,
+    QuoteCrossed = 6,
     // 60,000 orders have been accepted
-    AcceptedFull,
+    AcceptedFull = 7,
     // 512 orders are live
-    BookFull,
+    BookFull = 8,
     // no live order has this number
-    NoSuchOrder,
+    NoSuchOrder = 9,
     // the order is in hand
-    OrderInHand,
+    OrderInHand = 10,
     // the order is no market order of side 1 or 2, or its price is there
-    NotForTicket,
+    NotForTicket = 11,
     // the ticket is not good
-    BadTicket,
+    BadTicket = 12,
     // the report list has fewer places than the call has rows
-    ReportFull,
+    ReportFull = 13,
     // the ledger has fewer places than the call has postings
-    LedgerFull,
+    LedgerFull = 14,
     // the file is longer than 65,536 bytes
-    FileTooLong,
+    FileTooLong = 15,
     // the file ends inside a word or a record
-    FileCut,
+    FileCut = 16,
     // a word's kind cannot stand there, or its unused bits are not zero
-    BadWord,
+    BadWord = 17,
     // the output bytes end before the printed lines do
-    OutputShort,
+    OutputShort = 18,
 }
 
-impl Numbered for Refusal {
-    ghost number = { refusal_number };
+impl From<Refusal> for u32 {
+    ghost from_gives = { λ refusal n. n ≡ refusal_number refusal };
 
-    fn number(self) -> u32 {
-        match self {
-            Refusal::DayClosed => 1,
-            Refusal::DayUnopened => 2,
-            Refusal::DayOpen => 3,
-            Refusal::BadField => 4,
-            Refusal::TimeEarlier => 5,
-            Refusal::QuoteCrossed => 6,
-            Refusal::AcceptedFull => 7,
-            Refusal::BookFull => 8,
-            Refusal::NoSuchOrder => 9,
-            Refusal::OrderInHand => 10,
-            Refusal::NotForTicket => 11,
-            Refusal::BadTicket => 12,
-            Refusal::ReportFull => 13,
-            Refusal::LedgerFull => 14,
-            Refusal::FileTooLong => 15,
-            Refusal::FileCut => 16,
-            Refusal::BadWord => 17,
-            Refusal::OutputShort => 18,
+    fn from(refusal: Refusal) -> u32 {
+        refusal as u32
+    }
+}
+
+impl TryFrom<u32> for Refusal {
+    type Error = UnknownNumber;
+
+    ghost try_from_gives = { Reads refusal_number };
+
+    fn try_from(n: u32) -> Result<Refusal, UnknownNumber> {
+        match n {
+            1 => Ok(Refusal::DayClosed),
+            2 => Ok(Refusal::DayUnopened),
+            3 => Ok(Refusal::DayOpen),
+            4 => Ok(Refusal::BadField),
+            5 => Ok(Refusal::TimeEarlier),
+            6 => Ok(Refusal::QuoteCrossed),
+            7 => Ok(Refusal::AcceptedFull),
+            8 => Ok(Refusal::BookFull),
+            9 => Ok(Refusal::NoSuchOrder),
+            10 => Ok(Refusal::OrderInHand),
+            11 => Ok(Refusal::NotForTicket),
+            12 => Ok(Refusal::BadTicket),
+            13 => Ok(Refusal::ReportFull),
+            14 => Ok(Refusal::LedgerFull),
+            15 => Ok(Refusal::FileTooLong),
+            16 => Ok(Refusal::FileCut),
+            17 => Ok(Refusal::BadWord),
+            18 => Ok(Refusal::OutputShort),
+            _ => Err(UnknownNumber(n)),
         }
     }
+}
 
-    fn from_number(n: u32) -> Option<Refusal> {
-        match n {
-            1 => Some(Refusal::DayClosed),
-            2 => Some(Refusal::DayUnopened),
-            3 => Some(Refusal::DayOpen),
-            4 => Some(Refusal::BadField),
-            5 => Some(Refusal::TimeEarlier),
-            6 => Some(Refusal::QuoteCrossed),
-            7 => Some(Refusal::AcceptedFull),
-            8 => Some(Refusal::BookFull),
-            9 => Some(Refusal::NoSuchOrder),
-            10 => Some(Refusal::OrderInHand),
-            11 => Some(Refusal::NotForTicket),
-            12 => Some(Refusal::BadTicket),
-            13 => Some(Refusal::ReportFull),
-            14 => Some(Refusal::LedgerFull),
-            15 => Some(Refusal::FileTooLong),
-            16 => Some(Refusal::FileCut),
-            17 => Some(Refusal::BadWord),
-            18 => Some(Refusal::OutputShort),
-            _ => None,
-        }
+// A number that no term has is a bad field, so that `?` refuses it.
+impl From<UnknownNumber> for Refusal {
+    ghost from_gives = { λ _ refusal. refusal ≡ BadField };
+
+    fn from(_: UnknownNumber) -> Refusal {
+        Refusal::BadField
     }
 }

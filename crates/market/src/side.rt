@@ -1,14 +1,16 @@
 // The side of an order: what the customer does.
-ghost use Rattle.std.specs.Prelude.{◌≡◌};
-ghost use Rattle.market.specs.Terms.{side_number, market_side};
+ghost use Rattle.std.specs.Prelude.{◌≡◌, Some};
+ghost use Rattle.market.specs.Names.{side_name};
+ghost use Rattle.market.specs.Terms.{Reads, side_number, market_side};
 
-use crate::numbered::Numbered;
+use crate::numbered::UnknownNumber;
+use std::fmt;
 
 #[derive(Clone, Copy, PartialEq, Eq, Debug)]
 pub enum Side {
-    Buy,
-    SellLong,
-    SellShort,
+    Buy = 1,
+    SellLong = 2,
+    SellShort = 3,
 }
 
 // The market has two sides: long and short sells are one.
@@ -30,23 +32,37 @@ impl Side {
     }
 }
 
-impl Numbered for Side {
-    ghost number = { side_number };
+impl From<Side> for u32 {
+    ghost from_gives = { λ side n. n ≡ side_number side };
 
-    fn number(self) -> u32 {
-        match self {
-            Side::Buy => 1,
-            Side::SellLong => 2,
-            Side::SellShort => 3,
+    fn from(side: Side) -> u32 {
+        side as u32
+    }
+}
+
+impl TryFrom<u32> for Side {
+    type Error = UnknownNumber;
+
+    ghost try_from_gives = { Reads side_number };
+
+    fn try_from(n: u32) -> Result<Side, UnknownNumber> {
+        match n {
+            1 => Ok(Side::Buy),
+            2 => Ok(Side::SellLong),
+            3 => Ok(Side::SellShort),
+            _ => Err(UnknownNumber(n)),
         }
     }
+}
 
-    fn from_number(n: u32) -> Option<Side> {
-        match n {
-            1 => Some(Side::Buy),
-            2 => Some(Side::SellLong),
-            3 => Some(Side::SellShort),
-            _ => None,
-        }
+impl fmt::Display for Side {
+    ghost output = { λ side. Some (side_name side) };
+
+    fn fmt<W: fmt::Write>(&self, f: &mut fmt::Formatter<W>) -> fmt::Result {
+        f.write_str(match self {
+            Side::Buy => "buy",
+            Side::SellLong => "sell long",
+            Side::SellShort => "sell short",
+        })
     }
 }

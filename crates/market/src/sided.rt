@@ -21,10 +21,7 @@ pub trait Sided {
 fn share_of(which: MarketSide, side: Side, n: u32) -> u32
     ensures { result ≡ shares_on which side n }
 {
-    match (which, side.market_side()) {
-        (MarketSide::Buying, MarketSide::Buying) | (MarketSide::Selling, MarketSide::Selling) => n,
-        _ => 0,
-    }
+    if side.market_side() == which { n } else { 0 }
 }
 
 // A test of records: which of them a sum is to count.

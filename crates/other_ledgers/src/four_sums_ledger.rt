@@ -1,28 +1,18 @@
 // The four sums as a ledger of 1,000 places.
-ghost use Rattle.std.specs.Prelude.{◌≡◌, ◌-◌, ◌*◌, ◌<◌, ◌≤◌, true, pos, ◌+ℤ◌, ◌-ℤ◌};
-ghost use Rattle.ledger.specs.Posting.{in_field, signed};
-ghost use Rattle.other_ledgers.specs.Bounded.{shares_of, money_of, sums_bounded};
+ghost use Rattle.std.specs.Prelude.{◌≡◌, ◌<◌, true, pos};
+ghost use Rattle.ledger.specs.Posting.{Agree, in_field, moved};
+ghost use Rattle.other_ledgers.specs.Bounded.{numbers_of, sums_bounded};
 
 use crate::four_sums::FourSums;
-use ledger::posting::{Ledger, in_field};
+use ledger::fill::Fill;
+use ledger::posting::Ledger;
 use market::refusal::Refusal;
-use market::side::{MarketSide, Side};
-
-// The money of a posting in range.
-fn amount(quantity: u32, price: u32) -> u64
-    requires { in_field quantity price ≡ true }
-    ensures value { result ≡ quantity * price }
-    ensures bound { result ≤ 19800000000 }
-{
-    quantity as u64 * price as u64
-}
+use market::side::MarketSide;
 
 impl FourSums {
     // Nothing bought, nothing sold, 1,000 places.
     pub fn new() -> FourSums
-        ensures shares { shares_of result ≡ pos 0 }
-        ensures money { money_of result ≡ pos 0 }
-        ensures places { result.left ≡ 1000 }
+        ensures { numbers_of result ≡ record { shares = pos 0; money = pos 0; places = 1000 } }
     {
         FourSums {
             bought: 0,
@@ -34,45 +24,38 @@ impl FourSums {
     }
 
     // Adds an accepted posting to the two sums of its side of the market.
-    fn add(&mut self, side: Side, quantity: u32, price: u32)
+    fn add(&mut self, fill: Fill)
         requires room { 0 < self.old.left }
-        requires fields { in_field quantity price ≡ true }
-        ensures shares { shares_of self.new ≡ shares_of self.old -ℤ signed side (pos quantity) }
-        ensures money { money_of self.new ≡ money_of self.old +ℤ signed side (pos (quantity * price)) }
-        ensures places { self.new.left ≡ self.old.left - 1 }
+        requires fields { in_field fill.shares fill.price ≡ true }
+        ensures { Agree (numbers_of self.new) (moved fill (numbers_of self.old)) }
     {
-        let paid = amount(quantity, price);
         self.left -= 1;
-        match side.market_side() {
+        match fill.side.market_side() {
             MarketSide::Buying => {
-                self.bought += quantity;
-                self.bought_money += paid;
+                self.bought += fill.shares;
+                self.bought_money += fill.money();
             }
             MarketSide::Selling => {
-                self.sold += quantity;
-                self.sold_money += paid;
+                self.sold += fill.shares;
+                self.sold_money += fill.money();
             }
         }
     }
 }
 
 impl Ledger for FourSums {
-    ghost shares = { shares_of };
-
-    ghost money = { money_of };
-
-    ghost places = { λ x. x.left };
+    ghost numbers = { numbers_of };
 
     ghost bounded = { sums_bounded };
 
-    fn post(&mut self, side: Side, quantity: u32, price: u32) -> Result<(), Refusal> {
-        if !in_field(quantity, price) {
+    fn post(&mut self, fill: Fill) -> Result<(), Refusal> {
+        if !fill.in_field() {
             return Err(Refusal::BadField);
         }
         if self.left == 0 {
             return Err(Refusal::LedgerFull);
         }
-        self.add(side, quantity, price);
+        self.add(fill);
         Ok(())
     }
 

@@ -1,25 +1,20 @@
 // A ledger that takes no posting at all. It is lawful, and stands at zero for ever.
-ghost use Rattle.std.specs.Prelude.{pos};
-ghost use Rattle.other_ledgers.specs.Bounded.{zero_bounded};
+ghost use Rattle.other_ledgers.specs.Bounded.{zero, zero_bounded};
 
-use ledger::posting::{Ledger, in_field};
+use ledger::fill::Fill;
+use ledger::posting::Ledger;
 use market::refusal::Refusal;
-use market::side::Side;
 
 #[derive(Clone, Copy)]
 pub struct NoPlaces {}
 
 impl Ledger for NoPlaces {
-    ghost shares = { λ _. pos 0 };
-
-    ghost money = { λ _. pos 0 };
-
-    ghost places = { λ _. 0 };
+    ghost numbers = { λ _. zero };
 
     ghost bounded = { λ _. zero_bounded };
 
-    fn post(&mut self, _side: Side, quantity: u32, price: u32) -> Result<(), Refusal> {
-        if in_field(quantity, price) {
+    fn post(&mut self, fill: Fill) -> Result<(), Refusal> {
+        if fill.in_field() {
             Err(Refusal::LedgerFull)
         } else {
             Err(Refusal::BadField)

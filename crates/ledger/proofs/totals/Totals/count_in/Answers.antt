@@ -7,18 +7,15 @@ use Rattle.ledger.proofs.totals.Totals.count_in.Goals as goal
 
 pub invariant_of-self : goal.invariant_of-self
 invariant_of-self c =
-    let few : c.args.quantity ≤ 99 = search rules in
+    let few : c.args.fill.shares ≤ 99 = search rules in
     let d : Within 99 c.by_side.result = (omega (arith, ints), omega (arith, ints)) in
-    let e : Within 19800000000 c.by_side-2.result = (omega (arith, ints), omega (arith, ints)) in
-    record { ok = runs_on _ _ _ _ _ c.args.self.now.ok c.requires.room d e }
+    record { ok = runs_on _ _ _ _ _ c.args.self.now.ok c.requires.room d c.paid.ensures.bound }
 
 pub returns : goal.returns
 returns c =
-    let few : c.args.quantity ≤ 99 = search rules in
+    let few : c.args.fill.shares ≤ 99 = search rules in
     record {
-      shares = sub_is _ _ _ (omega (arith, ints), omega (arith, ints)) (omega (arith, ints), omega (arith, ints)) c.by_side.ensures.value;
-      money =
-          add_is _ _ _ (omega (arith, ints), omega (arith, ints)) (omega (arith, ints), omega (arith, ints))
-          (c.by_side-2.ensures.value ∙ ap (λ n. signed c.args.side (pos n)) c.amount-paid.ensures.value);
+      shares = sub_is _ _ _ (omega (arith, ints), omega (arith, ints)) (omega (arith, ints), omega (arith, ints)) (c.by_side.ensures.value ∙ ap (λ n. signed c.args.fill.side (pos n)) c.from.ensures);
+      money = add_is _ _ _ (omega (arith, ints), omega (arith, ints)) (omega (arith, ints), omega (arith, ints)) c.paid.ensures.value;
       places = omega arith;
     }
