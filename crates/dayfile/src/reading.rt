@@ -10,7 +10,6 @@ use crate::kind::WordKind;
 use crate::record::{Placed, Record};
 use crate::word::{Rest, Word};
 use market::kind::Kind;
-use market::numbered::Numbered;
 use market::refusal::Refusal;
 
 // Whether the bits of an order's first value beside its fields are zero.
@@ -24,12 +23,12 @@ fn gaps_clear(value: u32) -> bool
 fn after_order(value: u32) -> &'static [WordKind]
     ensures { result.now ≡ after_order value }
 {
-    match Kind::from_number(value / 256 % 256) {
-        Some(Kind::Limit) => &[WordKind::Limit],
-        Some(Kind::Stop) => &[WordKind::Stop],
-        Some(Kind::StopLimit) => &[WordKind::Limit, WordKind::Stop],
-        Some(Kind::Market) => &[],
-        None => &[],
+    match Kind::try_from(value / 256 % 256) {
+        Ok(Kind::Limit) => &[WordKind::Limit],
+        Ok(Kind::Stop) => &[WordKind::Stop],
+        Ok(Kind::StopLimit) => &[WordKind::Limit, WordKind::Stop],
+        Ok(Kind::Market) => &[],
+        Err(_) => &[],
     }
 }
 

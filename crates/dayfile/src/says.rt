@@ -6,7 +6,6 @@ ghost use Rattle.dayfile.specs.Words.{value_at};
 use crate::entry::Entry;
 use crate::record::Record;
 use market::kind::Kind;
-use market::numbered::Numbered;
 
 // The byte at a place of a record's part; 0 past its end, where no record that was read has a word.
 fn byte_at(part: &[u8], at: usize) -> u8
@@ -34,12 +33,12 @@ fn order_of(first: u32, second: u32, third: u32) -> Entry
     ensures { result ≡ order_of first second third }
 {
     let kind = first / 256 % 256;
-    let (limit, stop) = match Kind::from_number(kind) {
-        Some(Kind::Limit) => (second, 0),
-        Some(Kind::Stop) => (0, second),
-        Some(Kind::StopLimit) => (second, third),
-        Some(Kind::Market) => (0, 0),
-        None => (0, 0),
+    let (limit, stop) = match Kind::try_from(kind) {
+        Ok(Kind::Limit) => (second, 0),
+        Ok(Kind::Stop) => (0, second),
+        Ok(Kind::StopLimit) => (second, third),
+        Ok(Kind::Market) => (0, 0),
+        Err(_) => (0, 0),
     };
     Entry::Order {
         side: first / 65_536,

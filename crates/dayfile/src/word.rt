@@ -39,13 +39,11 @@ impl<'a> Rest<'a> {
             return Err(self.fault(Refusal::FileCut));
         };
         let word = u32::from_be_bytes([*a, *b, *c, *d]);
-        match WordKind::from_number(word / 0x1000_0000) {
-            Some(kind) => Ok(Word {
-                kind,
-                value: word % 0x1000_0000,
-            }),
-            None => Err(self.fault(Refusal::BadWord)),
-        }
+        let Ok(kind) = WordKind::try_from(word / 0x1000_0000) else {
+            return Err(self.fault(Refusal::BadWord));
+        };
+        let value = word % 0x1000_0000;
+        Ok(Word { kind, value })
     }
 
     // A word of one kind has to stand here.
