@@ -3,7 +3,7 @@ use Rattle.std.proofs.Common.{◌≡◌, ℕ, ◌+◌, ◌/◌, ◌%◌, ◌≤�
 use Rattle.std.proofs.lemmas.Bool.Decides.{nat_tests}
 use Rattle.market.specs.declared.refusal.Refusal.{Refusal}
 use Rattle.dayfile.specs.Entries.{has_limit_word, has_stop_word}
-use Rattle.dayfile.specs.Faults.{after_order, fault_after, fault_among, fault_from, fault_of, gaps_clear}
+use Rattle.dayfile.specs.Faults.{after_order, fault_after, followers_of, fault_among, fault_from, fault_of, gaps_clear}
 use Rattle.dayfile.specs.Kinds.{word_kind_number, word_kind_of}
 use Rattle.dayfile.specs.Words.{kind_at, value_at}
 use Rattle.dayfile.specs.declared.kind.WordKind.{WordKind}
@@ -25,9 +25,5 @@ pub among_front : (k : WordKind) (ks : List WordKind) (rest : List ℕ) (at : �
 among_front k ks rest at r h = grind (arith, nat_tests)
 
 -- the fault of an order, past its first word
-pub order_fault : (rest : List ℕ) (b c : Bool) → 4 ≤ length rest → word_kind_of (kind_at rest 0) ≡ Some Order → gaps_clear (value_at rest 0) ≡ true → has_limit_word (value_at rest 0 / 256 % 256) ≡ b → has_stop_word (value_at rest 0 / 256 % 256) ≡ c → fault_of false rest ≡ fault_among (cond b (Limit ∷ []) [] ++ cond c (Stop ∷ []) []) rest 4
-order_fault rest b c h kind clear hb hc =
-    head_next false rest Order h kind
-    ∙ ap (λ g. fault_after (cond g (Some (after_order (value_at rest 0))) None) rest) clear
-    ∙ ap (λ g. fault_among (cond g (Limit ∷ []) [] ++ cond (has_stop_word (value_at rest 0 / 256 % 256)) (Stop ∷ []) []) rest 4) hb
-    ∙ ap (λ g. fault_among (cond b (Limit ∷ []) [] ++ cond g (Stop ∷ []) []) rest 4) hc
+pub order_fault : (rest : List ℕ) (v : ℕ) → 4 ≤ length rest → kind_at rest 0 ≡ 2 → value_at rest 0 ≡ v → gaps_clear v ≡ true → fault_of false rest ≡ fault_among (after_order v) rest 4
+order_fault rest v h kind value clear = grind (arith, nat_tests)
