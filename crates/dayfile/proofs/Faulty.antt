@@ -1,24 +1,15 @@
 -- Faults of words, and of the records that they stand in.
-use Rattle.std.proofs.Common.{◌≡◌, ℕ, ◌+◌, ◌/◌, ◌%◌, ◌≤◌, Bool, true, false, cond, List, [], ◌∷◌, ◌++◌, length, Some, None, ap, ◌∙◌, arith}
+use Rattle.std.proofs.Common.{◌≡◌, ℕ, ◌+◌, ◌≤◌, true, false, List, [], ◌∷◌, length, Some, arith}
 use Rattle.std.proofs.lemmas.Bool.Decides.{nat_tests}
 use Rattle.market.specs.declared.refusal.Refusal.{Refusal}
-use Rattle.dayfile.specs.Entries.{has_limit_word, has_stop_word}
-use Rattle.dayfile.specs.Faults.{after_order, fault_after, followers_of, fault_among, fault_from, fault_of, gaps_clear}
-use Rattle.dayfile.specs.Kinds.{word_kind_number, word_kind_of}
+use Rattle.dayfile.specs.Faults.{after_order, fault_among, fault_of, gaps_clear}
+use Rattle.dayfile.specs.Kinds.{word_kind_number}
 use Rattle.dayfile.specs.Words.{kind_at, value_at}
 use Rattle.dayfile.specs.declared.kind.WordKind.{WordKind}
-use Rattle.dayfile.specs.declared.kind.WordKind.TheVariants.{Order, Limit, Stop}
-
-pub own_kind : (k : WordKind) → word_kind_of (word_kind_number k) ≡ Some k
-own_kind k = grind (arith, nat_tests)
 
 -- past a word of the kind that is wanted
 pub among_next : (k : WordKind) (ks : List WordKind) (rest : List ℕ) (at : ℕ) → at + 4 ≤ length rest → kind_at rest at ≡ word_kind_number k → fault_among (k ∷ ks) rest at ≡ fault_among ks rest (at + 4)
 among_next k ks rest at h same = grind (arith, nat_tests)
-
--- past a first word of a kind
-pub head_next : (first : Bool) (rest : List ℕ) (k : WordKind) → 0 + 4 ≤ length rest → word_kind_of (kind_at rest 0) ≡ Some k → fault_of first rest ≡ fault_from first (Some k) rest
-head_next first rest k h kind = grind (arith, nat_tests)
 
 -- a fault at the first of the words that follow
 pub among_front : (k : WordKind) (ks : List WordKind) (rest : List ℕ) (at : ℕ) (r : Refusal) → fault_among (k ∷ []) rest at ≡ Some r → fault_among (k ∷ ks) rest at ≡ Some r

@@ -1,14 +1,14 @@
 -- A file is read in one way only.
-use Rattle.std.proofs.Common.{◌≡◌, ℕ, ◌/◌, ◌%◌, ◌<◌, ◌≤◌, Bool, true, false, cond, not, ◌&&◌, eqb, ltb, ◌⊎◌, List, [], ◌∷◌, ◌++◌, length, drop, Some, None, Option, sym, refl, ap, ◌∙◌, inl, inr, ⊎_elim, append_assoc, append-nil, arith, length-append, length-drop, take-append-drop}
+use Rattle.std.proofs.Common.{◌≡◌, ℕ, ◌/◌, ◌%◌, ◌<◌, ◌≤◌, Bool, true, false, cond, not, eqb, ◌⊎◌, List, [], ◌∷◌, ◌++◌, length, drop, Some, None, Option, Err, sym, refl, ap, ◌∙◌, inl, inr, ⊎_elim, append_assoc, append-nil, arith, length-append, length-drop, take-append-drop}
 use Rattle.std.specs.List.{flat_map, list_all}
 use Rattle.std.proofs.lemmas.List.{append_cancel_left, length-take-le}
 use Rattle.std.proofs.lemmas.Bool.Decides.{nat_tests}
-use Rattle.std.proofs.lemmas.Bool.{and_parts, cases_lt, eqb-true, lt-ltb, ltb-true, not-true}
+use Rattle.std.proofs.lemmas.Bool.{and_parts, cases_lt, ltb-true, not-true}
 use Rattle.market.specs.declared.refusal.Refusal.{Refusal}
 use Rattle.market.specs.declared.refusal.Refusal.TheVariants.{FileTooLong}
 use Rattle.dayfile.specs.Entries.{has_limit_word, has_stop_word, is_start, is_value, is_writable, order_value, written}
 use Rattle.dayfile.specs.Faults.{fault_of}
-use Rattle.dayfile.specs.Files.{FileReads, NoRecord, OnlyReading, first_faulty, joined_words, later_faulty, starts_once, too_long, whole}
+use Rattle.dayfile.specs.Files.{Counted, FileReads, NoRecord, OnlyReading, first_faulty, joined_words, later_faulty, starts_once, too_long, whole}
 use Rattle.dayfile.specs.Kinds.{word_kind_of}
 use Rattle.dayfile.specs.Records.{order_of}
 use Rattle.dayfile.specs.Words.{bytes_of, kind_at, value_at, word}
@@ -17,9 +17,8 @@ use Rattle.dayfile.specs.declared.entry.Entry.TheVariants.{Start, Clock, Order, 
 use Rattle.dayfile.specs.declared.fault.Fault.{Fault}
 use Rattle.dayfile.specs.declared.kind.WordKind.{WordKind}
 use Rattle.dayfile.specs.declared.kind.WordKind.TheVariants.{Time, Order as OrderWord, Limit, Stop, Cancel as CancelWord, Bid, Offer, OpeningPrice, TradePrice, Volume, Close as CloseWord, Unit as UnitWord, PriorClose, Tag}
-use Rattle.dayfile.proofs.Faulty.{own_kind}
 use Rattle.dayfile.proofs.Filed.{some_word}
-use Rattle.dayfile.proofs.Whole.{back, kind_of_lem, order_parts, value_of}
+use Rattle.dayfile.proofs.Whole.{order_parts}
 
 -- what the front of a list says, by its first word
 abbrev decode_as : Option WordKind → List ℕ → Entry
@@ -135,7 +134,7 @@ pub record Parts (file : List ℕ) (es : List Entry) (fault : Option Fault) : Ty
   pub fault_is : fault ≡ fault_for es rest
 
 none_of_once : starts_once [] ≡ true → ⊥
-none_of_once h = let z : ◌≡◌ {A = ℕ} 0 1 = cc in omega arith
+none_of_once h = cc
 
 whole_fault : (es : List Entry) → starts_once es ≡ true → None ≡ fault_for es []
 whole_fault [] h = absurd (none_of_once h)
@@ -188,7 +187,7 @@ parts_of file _ _ short (later_faulty es place r b before none is) =
     }
 
 first_starts : (e : Entry) (es : List Entry) → (◌≡◌ {A = List Entry} (e ∷ es) []) ⊎ (starts_once (e ∷ es) ≡ true) → starts_once (e ∷ es) ≡ true
-first_starts e es (inl none) = let z : ◌≡◌ {A = ℕ} 0 1 = cc in absurd (omega arith)
+first_starts e es (inl none) = cc
 first_starts e es (inr once) = once
 
 -- a list of records that the file begins with, against none
@@ -233,3 +232,7 @@ one_reading file es fault h fs other k =
     (b.0 ∙ sym a.0, b.1 ∙ sym a.1))
     (λ short. same_parts file es fs fault other (parts_of file es fault short h) (parts_of file fs other short k))
     (cases_lt 65536 (length file))
+
+-- a file with this fault is counted by it
+pub faulty_count : (file : List ℕ) (es : List Entry) (f : Fault) → FileReads file es (Some f) → Counted file (Err f)
+faulty_count file es f h = (es, h, one_reading file es (Some f) h)

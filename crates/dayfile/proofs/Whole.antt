@@ -1,31 +1,17 @@
 -- A record that stands at the front of a list has no fault.
-use Rattle.std.proofs.Common.{◌≡◌, ℕ, ◌+◌, ◌*◌, ◌/◌, ◌%◌, Bool, true, false, cond, ◌&&◌, eqb, ltb, List, [], ◌∷◌, ◌++◌, drop, Some, None, sym, refl, ap, ◌∙◌, arith}
+use Rattle.std.proofs.Common.{◌≡◌, ℕ, ◌/◌, ◌%◌, Bool, true, false, cond, eqb, ltb, List, [], ◌∷◌, ◌++◌, Some, None, refl, ◌∙◌, arith}
 use Rattle.std.specs.List.{flat_map}
 use Rattle.std.proofs.lemmas.Bool.Decides.{nat_tests}
-use Rattle.std.proofs.lemmas.Bool.{and_from, and_parts, lt-ltb, ltb-true}
+use Rattle.std.proofs.lemmas.Bool.{and_from, ltb-true}
 use Rattle.market.specs.declared.refusal.Refusal.{Refusal}
-use Rattle.market.specs.declared.refusal.Refusal.TheVariants.{BadWord}
 use Rattle.dayfile.specs.Entries.{has_limit_word, has_stop_word, is_start, is_value, is_writable, order_value, written}
-use Rattle.dayfile.specs.Faults.{fault_after, fault_among, fault_of, followers_of, gaps_clear, may_begin}
+use Rattle.dayfile.specs.Faults.{fault_among, fault_of}
 use Rattle.dayfile.specs.Files.{NoRecord}
-use Rattle.dayfile.specs.Kinds.{word_kind_number, word_kind_of}
 use Rattle.dayfile.specs.Words.{bytes_of, kind_at, value_at, word}
 use Rattle.dayfile.specs.declared.entry.Entry.{Entry}
 use Rattle.dayfile.specs.declared.entry.Entry.TheVariants.{Start, Clock, Order, Cancel, Quote, Opening, Trade, Close}
-use Rattle.dayfile.specs.declared.fault.Fault.{Fault}
-use Rattle.dayfile.specs.declared.kind.WordKind.{WordKind}
-use Rattle.dayfile.specs.declared.kind.WordKind.TheVariants.{Time, Order as OrderWord, Limit, Stop, Cancel as CancelWord, Bid, Offer, OpeningPrice, TradePrice, Volume, Close as CloseWord, Unit as UnitWord, PriorClose, Tag}
-use Rattle.dayfile.proofs.Faulty.{among_next, head_next, order_fault, own_kind}
-
--- the bytes of a word, read back
-pub back : (w : ℕ) → w / 16777216 * 16777216 + w / 65536 % 256 * 65536 + w / 256 % 256 * 256 + w % 256 ≡ w
-back w = omega arith
-
-pub kind_of_lem : (k : WordKind) (v : ℕ) → is_value v ≡ true → word k v / 268435456 ≡ word_kind_number k
-kind_of_lem k v h = omega (arith, ltb-true v 268435456 h)
-
-pub value_of : (k : WordKind) (v : ℕ) → is_value v ≡ true → word k v % 268435456 ≡ v
-value_of k v h = omega (arith, ltb-true v 268435456 h)
+use Rattle.dayfile.specs.declared.kind.WordKind.TheVariants.{Order as OrderWord, Limit, Stop}
+use Rattle.dayfile.proofs.Faulty.{order_fault}
 
 -- the price words of an order
 prices : (b c : Bool) (w limit stop : ℕ) (tail : List ℕ) → cond b (is_value limit) (eqb limit 0) ≡ true → cond c (is_value stop) (eqb stop 0) ≡ true → fault_among (cond b (Limit ∷ []) [] ++ cond c (Stop ∷ []) []) (bytes_of w ++ flat_map bytes_of (cond b (word Limit limit ∷ []) [] ++ cond c (word Stop stop ∷ []) []) ++ tail) 4 ≡ None

@@ -1,25 +1,22 @@
-use Rattle.std.proofs.Common.{◌≡◌, ◌+◌, [], ◌∷◌, ◌++◌, length, drop, Some, None, sym, refl, ap, ◌∙◌, subst, arith}
+use Rattle.std.proofs.Common.{◌≡◌, ◌+◌, [], ◌∷◌, ◌++◌, length, drop, None, sym, refl, ap, ◌∙◌, arith}
 use Rattle.std.proofs.lemmas.List.{length_push}
 use Rattle.std.proofs.lemmas.Result.{err_from_is_err_and}
-use Rattle.dayfile.specs.Files.{FileReads, too_long}
-use Rattle.dayfile.specs.declared.fault.Fault.{Fault}
+use Rattle.dayfile.specs.Files.{too_long}
 use Rattle.dayfile.specs.Records.{entry_of, part_of}
 use Rattle.dayfile.proofs.Filed.{begins_first, begins_more, later, part_some, reads_first, reads_later, reads_whole}
-use Rattle.dayfile.proofs.Unique.{one_reading}
+use Rattle.dayfile.proofs.Unique.{faulty_count, one_reading}
 use Rattle.dayfile.proofs.counting.count_records.Goals as goal
 
 pub returns-then-file-gt65536 : goal.returns-then-file-gt65536
 returns-then-file-gt65536 c =
-    let f = c.too_long.result in
-    let reads = subst (λ (x : Fault). FileReads c.args.file.now [] (Some x)) (sym c.too_long.ensures) (too_long (omega arith)) in
-    ([], reads, one_reading c.args.file.now [] (Some f) reads)
+    faulty_count c.args.file.now [] c.too_long.result (rw c.too_long.ensures (too_long (omega arith)))
 
 pub returns-in_err-start : goal.returns-in_err-start
 returns-in_err-start c =
     let p = err_from_is_err_and c.from_residual.result c.from_residual.ensures.1 in
     let q = c.in_err-start.ensures in
-    let reads = reads_first c.args.file.now c.in_err-start.field-0.0 (omega arith) q.0 q.1 q.2 in
-    rw (p.1, p.2) ([], reads, one_reading c.args.file.now [] (Some c.in_err-start.field-0.0) reads)
+    let f = c.in_err-start.field-0.0 in
+    rw (p.1, p.2) (faulty_count c.args.file.now [] f (reads_first c.args.file.now f (omega arith) q.0 q.1 q.2))
 
 pub loop-found-init : goal.loop-found-init
 loop-found-init c =
@@ -43,8 +40,7 @@ returns-in_err-found c =
     let f = c.in_err-found.field-0.0 in
     let p = err_from_is_err_and c.from_residual-in_err-found.result c.from_residual-in_err-found.ensures.1 in
     let step = rw c.loop-found.invariant.file at (rw c.in_err-found.was at c.in-Some.ensures.steps) in
-    let reads = reads_later file i.0 at f i.1 step.0 step.1.0 step.1.1 step.1.2 in
-    rw (p.1, p.2) (i.0, reads, one_reading file i.0 (Some f) reads)
+    rw (p.1, p.2) (faulty_count file i.0 f (reads_later file i.0 at f i.1 step.0 step.1.0 step.1.1 step.1.2))
 
 pub loop-found-preserved : goal.loop-found-preserved
 loop-found-preserved c =
