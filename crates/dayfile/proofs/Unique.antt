@@ -1,9 +1,9 @@
 -- A file is read in one way only.
-use Rattle.std.proofs.Common.{◌≡◌, ℕ, ◌/◌, ◌%◌, ◌<◌, ◌≤◌, Bool, true, false, cond, not, eqb, ◌⊎◌, List, [], ◌∷◌, ◌++◌, length, drop, Some, None, Option, Err, sym, refl, ap, ◌∙◌, inl, inr, ⊎_elim, append_assoc, append-nil, arith, length-append, length-drop, take-append-drop}
+use Rattle.std.proofs.Common.{◌≡◌, ℕ, ◌<◌, ◌≤◌, Bool, true, false, cond, not, eqb, ◌⊎◌, List, [], ◌∷◌, ◌++◌, length, drop, Some, None, Option, Err, sym, refl, ap, ◌∙◌, inl, inr, ⊎_elim, append_assoc, append-nil, arith, length-append, length-drop, take-append-drop}
 use Rattle.std.specs.List.{flat_map, list_all}
 use Rattle.std.proofs.lemmas.List.{append_cancel_left, length-take-le}
 use Rattle.std.proofs.lemmas.Bool.Decides.{nat_tests}
-use Rattle.std.proofs.lemmas.Bool.{and_parts, cases_lt, ltb-true, not-true}
+use Rattle.std.proofs.lemmas.Bool.{and_parts, cases_lt, not-true}
 use Rattle.market.specs.declared.refusal.Refusal.{Refusal}
 use Rattle.market.specs.declared.refusal.Refusal.TheVariants.{FileTooLong}
 use Rattle.dayfile.specs.Entries.{has_limit_word, has_stop_word, is_start, is_value, is_writable, order_value, written}
@@ -16,13 +16,12 @@ use Rattle.dayfile.specs.declared.entry.Entry.{Entry}
 use Rattle.dayfile.specs.declared.entry.Entry.TheVariants.{Start, Clock, Order, Cancel, Quote, Opening, Trade, Close}
 use Rattle.dayfile.specs.declared.fault.Fault.{Fault}
 use Rattle.dayfile.specs.declared.kind.WordKind.{WordKind}
-use Rattle.dayfile.specs.declared.kind.WordKind.TheVariants.{Time, Order as OrderWord, Limit, Stop, Cancel as CancelWord, Bid, Offer, OpeningPrice, TradePrice, Volume, Close as CloseWord, Unit as UnitWord, PriorClose, Tag}
+use Rattle.dayfile.specs.declared.kind.WordKind.TheVariants.{Time, Order as OrderWord, Limit, Stop, Cancel as CancelWord, Bid, OpeningPrice, TradePrice, Unit as UnitWord}
 use Rattle.dayfile.proofs.Filed.{some_word}
-use Rattle.dayfile.proofs.Whole.{order_parts}
+use Rattle.dayfile.proofs.Whole.{order_parts, order_word}
 
 -- what the front of a list says, by its first word
 abbrev decode_as : Option WordKind → List ℕ → Entry
-decode_as None bs = Close
 decode_as (Some UnitWord) bs = Start (value_at bs 0) (value_at bs 4) (value_at bs 8)
 decode_as (Some Time) bs = Clock (value_at bs 0)
 decode_as (Some OrderWord) bs = order_of (value_at bs 0) (value_at bs 4) (value_at bs 8)
@@ -30,13 +29,7 @@ decode_as (Some CancelWord) bs = Cancel (value_at bs 0)
 decode_as (Some Bid) bs = Quote (value_at bs 0) (value_at bs 4)
 decode_as (Some OpeningPrice) bs = Opening (value_at bs 0) (value_at bs 4)
 decode_as (Some TradePrice) bs = Trade (value_at bs 0) (value_at bs 4)
-decode_as (Some CloseWord) bs = Close
-decode_as (Some Limit) bs = Close
-decode_as (Some Stop) bs = Close
-decode_as (Some Offer) bs = Close
-decode_as (Some Volume) bs = Close
-decode_as (Some PriorClose) bs = Close
-decode_as (Some Tag) bs = Close
+decode_as _ bs = Close
 
 abbrev decode : List ℕ → Entry
 decode bs = decode_as (word_kind_of (kind_at bs 0)) bs
@@ -51,20 +44,13 @@ prices_back false false w limit stop tail hb hc = grind (arith, nat_tests)
 order_back : (side kind shares limit stop : ℕ) (tail : List ℕ) → is_writable (Order side kind shares limit stop) ≡ true → decode (written (Order side kind shares limit stop) ++ tail) ≡ Order side kind shares limit stop
 order_back side kind shares limit stop tail h =
     let p = order_parts side kind shares limit stop h in
-    let s = ltb-true side 4 p.0 in
-    let k = ltb-true kind 8 p.1 in
-    let n = ltb-true shares 256 p.2 in
+    let f = order_word side kind shares limit stop tail h in
     let v = order_value side kind shares in
     let rest = written (Order side kind shares limit stop) ++ tail in
-    let is_word : kind_at rest 0 ≡ 2 = omega arith in
-    let is_value : value_at rest 0 ≡ v = omega arith in
-    let is_side : v / 65536 ≡ side = omega arith in
-    let is_kind : v / 256 % 256 ≡ kind = omega arith in
-    let is_shares : v % 256 ≡ shares = omega arith in
     let q = prices_back (has_limit_word kind) (has_stop_word kind) (word OrderWord v) limit stop tail p.3 p.4 in
-    ap (λ n. decode_as (word_kind_of n) rest) is_word
-    ∙ ap (λ n. order_of n (value_at rest 4) (value_at rest 8)) is_value
-    ∙ rw (is_side, is_kind, is_shares, q.0, q.1)
+    ap (λ n. decode_as (word_kind_of n) rest) f.0
+    ∙ ap (λ n. order_of n (value_at rest 4) (value_at rest 8)) f.1
+    ∙ rw (f.2, f.3, f.4, q.0, q.1)
 
 -- the words of a record say what it says, whatever follows them
 decoded : (e : Entry) (tail : List ℕ) → is_writable e ≡ true → decode (written e ++ tail) ≡ e

@@ -24,20 +24,22 @@ prices false false w limit stop tail hb hc = refl
 pub order_parts : (side kind shares limit stop : ℕ) → is_writable (Order side kind shares limit stop) ≡ true → (ltb side 4 ≡ true) × (ltb kind 8 ≡ true) × (ltb shares 256 ≡ true) × (cond (has_limit_word kind) (is_value limit) (eqb limit 0) ≡ true) × (cond (has_stop_word kind) (is_value stop) (eqb stop 0) ≡ true)
 order_parts side kind shares limit stop h = grind (arith, nat_tests)
 
-order_fine : (side kind shares limit stop : ℕ) (tail : List ℕ) → is_writable (Order side kind shares limit stop) ≡ true → fault_of false (written (Order side kind shares limit stop) ++ tail) ≡ None
-order_fine side kind shares limit stop tail h =
+-- the fields of an order's first word, read back
+pub order_word : (side kind shares limit stop : ℕ) (tail : List ℕ) → is_writable (Order side kind shares limit stop) ≡ true → (kind_at (written (Order side kind shares limit stop) ++ tail) 0 ≡ 2) × (value_at (written (Order side kind shares limit stop) ++ tail) 0 ≡ order_value side kind shares) × (order_value side kind shares / 65536 ≡ side) × (order_value side kind shares / 256 % 256 ≡ kind) × (order_value side kind shares % 256 ≡ shares)
+order_word side kind shares limit stop tail h =
     let p = order_parts side kind shares limit stop h in
     let s = ltb-true side 4 p.0 in
     let k = ltb-true kind 8 p.1 in
     let n = ltb-true shares 256 p.2 in
+    (omega arith, omega arith, omega arith, omega arith, omega arith)
+
+order_fine : (side kind shares limit stop : ℕ) (tail : List ℕ) → is_writable (Order side kind shares limit stop) ≡ true → fault_of false (written (Order side kind shares limit stop) ++ tail) ≡ None
+order_fine side kind shares limit stop tail h =
+    let p = order_parts side kind shares limit stop h in
+    let f = order_word side kind shares limit stop tail h in
     let v = order_value side kind shares in
-    let rest = written (Order side kind shares limit stop) ++ tail in
-    let is_word : kind_at rest 0 ≡ 2 = omega arith in
-    let is_value : value_at rest 0 ≡ v = omega arith in
-    let is_side : v / 65536 ≡ side = omega arith in
-    let is_kind : v / 256 % 256 ≡ kind = omega arith in
-    order_fault rest v (omega arith) is_word is_value (rw (is_side, is_kind) (and_from _ _ p.0 p.1))
-    ∙ rw is_kind (prices (has_limit_word kind) (has_stop_word kind) (word OrderWord v) limit stop tail p.3 p.4)
+    order_fault (written (Order side kind shares limit stop) ++ tail) v (omega arith) f.0 f.1 (rw (f.2, f.3) (and_from _ _ p.0 p.1))
+    ∙ rw f.3 (prices (has_limit_word kind) (has_stop_word kind) (word OrderWord v) limit stop tail p.3 p.4)
 
 fine : (e : Entry) (tail : List ℕ) → is_writable e ≡ true → fault_of (is_start e) (written e ++ tail) ≡ None
 fine (Start unit prior tag) tail h = grind (arith, nat_tests)
