@@ -35,7 +35,7 @@ fn after_order(value: u32) -> &'static [WordKind]
 impl<'a> Rest<'a> {
     // The first record of a file.
     fn start(self) -> Result<Record<'a>, Fault>
-        ensures { Found true self.entry.bytes.now self.entry.place result }
+        ensures { Found true self.entry result }
     {
         self.expect(0, WordKind::Unit)?;
         self.words(&[WordKind::PriorClose, WordKind::Tag])
@@ -44,9 +44,9 @@ impl<'a> Rest<'a> {
 
     // An order, of which the first word was read.
     fn order(self, word: Word) -> Result<Record<'a>, Fault>
-        requires read { WordRead self.bytes.now 0 self.place (Ok word) }
+        requires read { WordRead self 0 (Ok word) }
         requires kind { word.kind ≡ OrderWord }
-        ensures { Found false self.entry.bytes.now self.entry.place result }
+        ensures { Found false self.entry result }
     {
         if !gaps_clear(word.value) {
             return Err(self.fault(Refusal::BadWord));
@@ -57,7 +57,7 @@ impl<'a> Rest<'a> {
 
     // A record after the first.
     fn later(self) -> Result<Record<'a>, Fault>
-        ensures { Found false self.entry.bytes.now self.entry.place result }
+        ensures { Found false self.entry result }
     {
         let word = self.word(0)?;
         match word.kind {
@@ -74,7 +74,7 @@ impl<'a> Rest<'a> {
 
     // The record here: the start at place 0 of a file, and a later record elsewhere.
     fn record(self) -> Result<Record<'a>, Fault>
-        ensures { Found (self.entry.place == 0) self.entry.bytes.now self.entry.place result }
+        ensures { Found (self.entry.place == 0) self.entry result }
     {
         if self.place == 0 {
             self.start()

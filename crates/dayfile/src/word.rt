@@ -33,7 +33,7 @@ impl<'a> Rest<'a> {
 
     // The word at a byte of what is left.
     pub(crate) fn word(self, at: usize) -> Result<Word, Fault>
-        ensures { WordRead self.entry.bytes.now at self.entry.place result }
+        ensures { WordRead self.entry at result }
     {
         let Some([a, b, c, d, ..]) = self.bytes.get(at..) else {
             return Err(self.fault(Refusal::FileCut));
@@ -48,7 +48,7 @@ impl<'a> Rest<'a> {
 
     // A word of one kind has to stand here.
     pub(crate) fn expect(self, at: usize, kind: WordKind) -> Result<(), Fault>
-        ensures { Expected self.entry.bytes.now at kind self.entry.place result }
+        ensures { Expected self.entry at kind result }
     {
         let word = self.word(at)?;
         if word.kind == kind {
@@ -61,7 +61,7 @@ impl<'a> Rest<'a> {
     // The bytes of a first word that was read, and of words of these kinds that have to follow it.
     pub(crate) fn words(self, kinds: &[WordKind]) -> Result<&'a [u8], Fault>
         requires { 4 ≤ length self.bytes.now }
-        ensures { WordsRead self.entry.bytes.now kinds.now self.entry.place result }
+        ensures { WordsRead self.entry kinds.now result }
     {
         for (i, kind) in kinds.iter().enumerate() {
             self.expect(4 + 4 * i, *kind)?;

@@ -5,8 +5,5 @@ use Rattle.dayfile.proofs.word.Rest.order.Goals as goal
 
 pub returns : goal.returns
 returns c =
-    let v = c.args.word.value in
-    let clear : gaps_clear v ≡ true = search rules in
-    stands_order c.args.self.bytes.now c.args.self.place v c.in_ok-part.part c.requires.read.2 clear
-    (rw c.requires.kind at c.requires.read.3)
-    (rw c.after_order.ensures at c.in_ok-part.ensures)
+    let clear : gaps_clear c.args.word.value ≡ true = search rules in
+    stands_order c.args.self c.args.word c.in_ok-part.part c.requires.read c.requires.kind clear (rw c.after_order.ensures at c.in_ok-part.ensures)
