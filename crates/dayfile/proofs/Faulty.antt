@@ -1,7 +1,6 @@
 -- Faults of words, and of the records that they stand in.
-use Rattle.std.proofs.Common.{◌≡◌, ℕ, ◌+◌, ◌≤◌, true, false, List, [], ◌∷◌, length, Some, arith}
+use Rattle.std.proofs.Common.{◌≡◌, ℕ, ◌+◌, ◌≤◌, true, false, List, ◌∷◌, length, arith}
 use Rattle.std.proofs.lemmas.Bool.Decides.{nat_tests}
-use Rattle.market.specs.declared.refusal.Refusal.{Refusal}
 use Rattle.dayfile.specs.Faults.{after_order, fault_among, fault_of, gaps_clear}
 use Rattle.dayfile.specs.Kinds.{word_kind_number}
 use Rattle.dayfile.specs.Words.{kind_at, value_at}
@@ -10,10 +9,6 @@ use Rattle.dayfile.specs.declared.kind.WordKind.{WordKind}
 -- past a word of the kind that is wanted
 pub among_next : (k : WordKind) (ks : List WordKind) (rest : List ℕ) (at : ℕ) → at + 4 ≤ length rest → kind_at rest at ≡ word_kind_number k → fault_among (k ∷ ks) rest at ≡ fault_among ks rest (at + 4)
 among_next k ks rest at h same = grind (arith, nat_tests)
-
--- a fault at the first of the words that follow
-pub among_front : (k : WordKind) (ks : List WordKind) (rest : List ℕ) (at : ℕ) (r : Refusal) → fault_among (k ∷ []) rest at ≡ Some r → fault_among (k ∷ ks) rest at ≡ Some r
-among_front k ks rest at r h = grind (arith, nat_tests)
 
 -- the fault of an order, past its first word
 pub order_fault : (rest : List ℕ) (v : ℕ) → 4 ≤ length rest → kind_at rest 0 ≡ 2 → value_at rest 0 ≡ v → gaps_clear v ≡ true → fault_of false rest ≡ fault_among (after_order v) rest 4

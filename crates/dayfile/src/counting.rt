@@ -13,6 +13,7 @@ pub fn count_records(file: &[u8]) -> Result<usize, Fault>
     if file.len() > 65_536 {
         return Err(Fault::too_long());
     }
+    // The start is read apart: where the file has no bytes, it is cut.
     let start = record_at(file, 0)?;
     let mut count = 1;
     for found in Records::new(file, start.record.part().len()) {

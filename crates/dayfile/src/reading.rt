@@ -20,6 +20,7 @@ fn gaps_clear(value: u32) -> bool
 }
 
 // The words that follow an order's first word. An order whose kind is no kind has none.
+#[tactic(auto, using(crate::proofs::Prices::no_prices))]
 fn after_order(value: u32) -> &'static [WordKind]
     ensures { result.now ≡ after_order value }
 {
@@ -27,8 +28,7 @@ fn after_order(value: u32) -> &'static [WordKind]
         Ok(Kind::Limit) => &[WordKind::Limit],
         Ok(Kind::Stop) => &[WordKind::Stop],
         Ok(Kind::StopLimit) => &[WordKind::Limit, WordKind::Stop],
-        Ok(Kind::Market) => &[],
-        Err(_) => &[],
+        Ok(Kind::Market) | Err(_) => &[],
     }
 }
 

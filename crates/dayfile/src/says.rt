@@ -14,7 +14,8 @@ fn byte_at(part: &[u8], at: usize) -> u8
     part.get(at).copied().unwrap_or(0)
 }
 
-// The value of the word at a place of a record's part.
+// The value of the word at a place of a record's part. Byte by byte, since the promise also holds where the part ends
+// inside the word, and a pattern of four bytes would be no plainer with that case beside it.
 fn value_at(part: &[u8], at: usize) -> u32
     requires { at < 9 }
     ensures { result ≡ value_at part.now at }
@@ -29,6 +30,7 @@ fn value_at(part: &[u8], at: usize) -> u32
 }
 
 // The fields of an order, from the values of its words.
+#[tactic(auto, using(crate::proofs::Prices::no_prices))]
 fn order_of(first: u32, second: u32, third: u32) -> Entry
     ensures { result ≡ order_of first second third }
 {
@@ -37,8 +39,7 @@ fn order_of(first: u32, second: u32, third: u32) -> Entry
         Ok(Kind::Limit) => (second, 0),
         Ok(Kind::Stop) => (0, second),
         Ok(Kind::StopLimit) => (second, third),
-        Ok(Kind::Market) => (0, 0),
-        Err(_) => (0, 0),
+        Ok(Kind::Market) | Err(_) => (0, 0),
     };
     Entry::Order {
         side: first / 65_536,

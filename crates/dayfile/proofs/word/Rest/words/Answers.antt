@@ -1,27 +1,9 @@
-use Rattle.std.proofs.Common.{◌≡◌, ◌+◌, ◌*◌, drop, sym, refl, ap, ◌∙◌, arith, slice_index_or}
-use Rattle.std.proofs.lemmas.List.{at_drop_more, drop_all, drop_more}
-use Rattle.std.proofs.lemmas.Result.{err_from_is_err_and}
+use Rattle.std.proofs.Common.{◌≡◌, ◌+◌, ◌*◌, drop, sym, ap, ◌∙◌, arith, slice_index_or}
+use Rattle.std.proofs.lemmas.List.{at_drop_more, drop_more}
 use Rattle.dayfile.specs.Faults.{fault_among}
 use Rattle.dayfile.specs.declared.kind.WordKind.TheVariants.{Time}
-use Rattle.dayfile.proofs.Faulty.{among_front, among_next}
+use Rattle.dayfile.proofs.Faulty.{among_next}
 use Rattle.dayfile.proofs.word.Rest.words.Goals as goal
-
-pub loop-i-init : goal.loop-i-init
-loop-i-init c = record { inside = c.requires; stand = λ s. s; fault = refl }
-
-pub returns-in_err-expect : goal.returns-in_err-expect
-returns-in_err-expect c =
-    let rest = c.args.self.bytes.now in
-    let kinds = c.args.kinds.now in
-    let i = c.loop-i.i in
-    let p = err_from_is_err_and c.from_residual.result c.from_residual.ensures.1 in
-    let q = c.in_err-expect.ensures in
-    rw (p.1, p.2) (
-      q.0,
-      c.loop-i.invariant.fault
-          ∙ at_drop_more (λ ks. fault_among ks rest (4 + 4 * i)) kinds i Time c.loop-i-test.true
-          ∙ among_front (slice_index_or kinds i Time) (drop (i + 1) kinds) rest (4 + 4 * i) _ q.1,
-    )
 
 pub loop-i-preserved : goal.loop-i-preserved
 loop-i-preserved c =
@@ -39,8 +21,3 @@ loop-i-preserved c =
           ∙ among_next (slice_index_or kinds i Time) (drop (i + 1) kinds) rest (4 + 4 * i) e.0 e.1
           ∙ ap (fault_among (drop (i + 1) kinds) rest) (sym next);
     }
-
-pub returns : goal.returns
-returns c =
-    let none = drop_all c.loop-i.i c.args.kinds.now c.loop-i-test.false in
-    (omega arith, refl, c.loop-i.invariant.stand (rw none tt))
