@@ -25,12 +25,11 @@ some_word (Trade price volume) = omega arith
 some_word Close = omega arith
 
 pub part_some : (first : Bool) (rest : List ℕ) (x : Record) → Stands first rest x → 4 ≤ length (part_of x)
-part_some first rest x h = subst (λ (n : ℕ). 4 ≤ n) (sym (ap length h.exact)) (some_word (entry_of x))
+part_some first rest x h = rw h.exact (some_word (entry_of x))
 
 pub part_inside : (first : Bool) (file : List ℕ) (at : ℕ) (x : Record) → at ≤ length file → Stands first (drop at file) x → at + length (part_of x) ≤ length file
 part_inside first file at x h s =
-    let e : length (part_of x) ≤ length (drop at file) = subst (λ (n : ℕ). n ≤ length (drop at file)) (sym (ap length s.front)) (simp length-take (omega arith)) in
-    omega (arith, e, length-drop at file)
+    omega (arith, ap length s.front, length-take (length (part_of x)) (drop at file), length-drop at file)
 
 pub begins_first : (file : List ℕ) (x : Record) → length file ≤ 65536 → Stands true file x → Begins file (entry_of x ∷ []) (length (part_of x))
 begins_first file x short h =
@@ -44,7 +43,7 @@ begins_first file x short h =
     }
 
 once_push : (es : List Entry) (e : Entry) → starts_once es ≡ true → is_start e ≡ false → starts_once (es ++ e ∷ []) ≡ true
-once_push [] e h k = let z : ◌≡◌ {A = Bool} false true = h in let w : ◌≡◌ {A = ℕ} 0 1 = cc in absurd (omega arith)
+once_push [] e h k = cc
 once_push (x ∷ xs) e h k =
     let p = and_parts (is_start x) (list_all (λ y. not (is_start y)) xs) h in
     and_from _ _ p.0 (pass_push (λ y. not (is_start y)) xs e p.1 (not_from_false (is_start e) k))
@@ -79,4 +78,4 @@ pub reads_later : (file : List ℕ) (es : List Entry) (at : ℕ) (f : Fault) →
 reads_later file es at f b before none fault place =
     let l = later file es at b in
     subst (λ (p : ℕ). FileReads file es (Some (record { reason = f.reason; place = p }))) (sym place)
-    (later_faulty es at f.reason b before (subst (λ (x : Bool). NoRecord x (drop at file)) l none) (ap (λ x. fault_of x (drop at file)) (sym l) ∙ fault))
+    (later_faulty es at f.reason b before (rw l at none) (rw l at fault))

@@ -1,6 +1,5 @@
-pub mod Words
+pub mod Prices
 pub mod Faulty
-pub mod Standing
 pub mod Whole
 pub mod Filed
 pub mod Unique

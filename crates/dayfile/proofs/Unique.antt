@@ -1,13 +1,14 @@
 -- A file is read in one way only.
-use Rattle.std.proofs.Common.{◌≡◌, ℕ, ◌/◌, ◌%◌, ◌<◌, ◌≤◌, Bool, true, false, cond, not, ◌&&◌, eqb, ltb, ◌⊎◌, List, [], ◌∷◌, ◌++◌, length, drop, Some, None, Option, sym, refl, ap, ◌∙◌, inl, inr, ⊎_elim, append_assoc, append-nil, arith, length-append, length-drop, take-append-drop}
+use Rattle.std.proofs.Common.{◌≡◌, ℕ, ◌<◌, ◌≤◌, Bool, true, false, cond, not, eqb, ◌⊎◌, List, [], ◌∷◌, ◌++◌, length, drop, Some, None, Option, Err, sym, refl, ap, ◌∙◌, inl, inr, ⊎_elim, append_assoc, append-nil, arith, length-append, length-drop, take-append-drop}
 use Rattle.std.specs.List.{flat_map, list_all}
 use Rattle.std.proofs.lemmas.List.{append_cancel_left, length-take-le}
-use Rattle.std.proofs.lemmas.Bool.{and_parts, cases_lt, eqb-true, lt-ltb, ltb-true, not-true}
+use Rattle.std.proofs.lemmas.Bool.Decides.{nat_tests}
+use Rattle.std.proofs.lemmas.Bool.{and_parts, cases_lt, not-true}
 use Rattle.market.specs.declared.refusal.Refusal.{Refusal}
 use Rattle.market.specs.declared.refusal.Refusal.TheVariants.{FileTooLong}
 use Rattle.dayfile.specs.Entries.{has_limit_word, has_stop_word, is_start, is_value, is_writable, order_value, written}
 use Rattle.dayfile.specs.Faults.{fault_of}
-use Rattle.dayfile.specs.Files.{FileReads, NoRecord, OnlyReading, first_faulty, joined_words, later_faulty, starts_once, too_long, whole}
+use Rattle.dayfile.specs.Files.{Counted, FileReads, NoRecord, OnlyReading, first_faulty, joined_words, later_faulty, starts_once, too_long, whole}
 use Rattle.dayfile.specs.Kinds.{word_kind_of}
 use Rattle.dayfile.specs.Records.{order_of}
 use Rattle.dayfile.specs.Words.{bytes_of, kind_at, value_at, word}
@@ -15,14 +16,12 @@ use Rattle.dayfile.specs.declared.entry.Entry.{Entry}
 use Rattle.dayfile.specs.declared.entry.Entry.TheVariants.{Start, Clock, Order, Cancel, Quote, Opening, Trade, Close}
 use Rattle.dayfile.specs.declared.fault.Fault.{Fault}
 use Rattle.dayfile.specs.declared.kind.WordKind.{WordKind}
-use Rattle.dayfile.specs.declared.kind.WordKind.TheVariants.{Time, Order as OrderWord, Limit, Stop, Cancel as CancelWord, Bid, Offer, OpeningPrice, TradePrice, Volume, Close as CloseWord, Unit as UnitWord, PriorClose, Tag}
-use Rattle.dayfile.proofs.Faulty.{own_kind}
+use Rattle.dayfile.specs.declared.kind.WordKind.TheVariants.{Time, Order as OrderWord, Limit, Stop, Cancel as CancelWord, Bid, OpeningPrice, TradePrice, Unit as UnitWord}
 use Rattle.dayfile.proofs.Filed.{some_word}
-use Rattle.dayfile.proofs.Whole.{back, kind_of_lem, order_parts, value_of}
+use Rattle.dayfile.proofs.Whole.{order_parts, order_word}
 
 -- what the front of a list says, by its first word
 abbrev decode_as : Option WordKind → List ℕ → Entry
-decode_as None bs = Close
 decode_as (Some UnitWord) bs = Start (value_at bs 0) (value_at bs 4) (value_at bs 8)
 decode_as (Some Time) bs = Clock (value_at bs 0)
 decode_as (Some OrderWord) bs = order_of (value_at bs 0) (value_at bs 4) (value_at bs 8)
@@ -30,95 +29,40 @@ decode_as (Some CancelWord) bs = Cancel (value_at bs 0)
 decode_as (Some Bid) bs = Quote (value_at bs 0) (value_at bs 4)
 decode_as (Some OpeningPrice) bs = Opening (value_at bs 0) (value_at bs 4)
 decode_as (Some TradePrice) bs = Trade (value_at bs 0) (value_at bs 4)
-decode_as (Some CloseWord) bs = Close
-decode_as (Some Limit) bs = Close
-decode_as (Some Stop) bs = Close
-decode_as (Some Offer) bs = Close
-decode_as (Some Volume) bs = Close
-decode_as (Some PriorClose) bs = Close
-decode_as (Some Tag) bs = Close
+decode_as _ bs = Close
 
 abbrev decode : List ℕ → Entry
 decode bs = decode_as (word_kind_of (kind_at bs 0)) bs
 
-value_1 : (k : WordKind) (v : ℕ) (tail : List ℕ) → is_value v ≡ true → value_at (bytes_of (word k v) ++ tail) 0 ≡ v
-value_1 k v tail h = ap (λ w. w % 268435456) (back (word k v)) ∙ value_of k v h
-
-value_2 : (w : ℕ) (k : WordKind) (v : ℕ) (tail : List ℕ) → is_value v ≡ true → value_at (bytes_of w ++ (bytes_of (word k v) ++ tail)) 4 ≡ v
-value_2 w k v tail h = ap (λ x. x % 268435456) (back (word k v)) ∙ value_of k v h
-
-value_3 : (w x : ℕ) (k : WordKind) (v : ℕ) (tail : List ℕ) → is_value v ≡ true → value_at (bytes_of w ++ (bytes_of x ++ (bytes_of (word k v) ++ tail))) 8 ≡ v
-value_3 w x k v tail h = ap (λ y. y % 268435456) (back (word k v)) ∙ value_of k v h
-
-as_kind : (k : WordKind) (v : ℕ) (tail : List ℕ) → is_value v ≡ true → decode (bytes_of (word k v) ++ tail) ≡ decode_as (Some k) (bytes_of (word k v) ++ tail)
-as_kind k v tail h =
-    ap (λ o. decode_as o (bytes_of (word k v) ++ tail)) (ap (λ w. word_kind_of (w / 268435456)) (back (word k v)) ∙ ap word_kind_of (kind_of_lem k v h) ∙ own_kind k)
-
 -- the price words of an order, read back
 prices_back : (b c : Bool) (w limit stop : ℕ) (tail : List ℕ) → cond b (is_value limit) (eqb limit 0) ≡ true → cond c (is_value stop) (eqb stop 0) ≡ true → (cond b (value_at (bytes_of w ++ flat_map bytes_of (cond b (word Limit limit ∷ []) [] ++ cond c (word Stop stop ∷ []) []) ++ tail) 4) 0 ≡ limit) × (cond c (cond b (value_at (bytes_of w ++ flat_map bytes_of (cond b (word Limit limit ∷ []) [] ++ cond c (word Stop stop ∷ []) []) ++ tail) 8) (value_at (bytes_of w ++ flat_map bytes_of (cond b (word Limit limit ∷ []) [] ++ cond c (word Stop stop ∷ []) []) ++ tail) 4)) 0 ≡ stop)
-prices_back true true w limit stop tail hb hc = (value_2 w Limit limit (bytes_of (word Stop stop) ++ tail) hb, value_3 w (word Limit limit) Stop stop tail hc)
-prices_back true false w limit stop tail hb hc = (value_2 w Limit limit tail hb, sym (eqb-true stop 0 hc))
-prices_back false true w limit stop tail hb hc = (sym (eqb-true limit 0 hb), value_2 w Stop stop tail hc)
-prices_back false false w limit stop tail hb hc = (sym (eqb-true limit 0 hb), sym (eqb-true stop 0 hc))
+prices_back true true w limit stop tail hb hc = grind (arith, nat_tests)
+prices_back true false w limit stop tail hb hc = grind (arith, nat_tests)
+prices_back false true w limit stop tail hb hc = grind (arith, nat_tests)
+prices_back false false w limit stop tail hb hc = grind (arith, nat_tests)
 
-order_back : (side kind shares limit stop : ℕ) (tail : List ℕ) → ltb side 4 ≡ true → ltb kind 8 ≡ true → ltb shares 256 ≡ true → cond (has_limit_word kind) (is_value limit) (eqb limit 0) ≡ true → cond (has_stop_word kind) (is_value stop) (eqb stop 0) ≡ true → decode (written (Order side kind shares limit stop) ++ tail) ≡ Order side kind shares limit stop
-order_back side kind shares limit stop tail hs hk hn hl ht =
-    let s = ltb-true side 4 hs in
-    let k = ltb-true kind 8 hk in
-    let n = ltb-true shares 256 hn in
+order_back : (side kind shares limit stop : ℕ) (tail : List ℕ) → is_writable (Order side kind shares limit stop) ≡ true → decode (written (Order side kind shares limit stop) ++ tail) ≡ Order side kind shares limit stop
+order_back side kind shares limit stop tail h =
+    let p = order_parts side kind shares limit stop h in
+    let f = order_word side kind shares limit stop tail h in
     let v = order_value side kind shares in
-    let more = flat_map bytes_of (cond (has_limit_word kind) (word Limit limit ∷ []) [] ++ cond (has_stop_word kind) (word Stop stop ∷ []) []) ++ tail in
-    let rest = bytes_of (word OrderWord v) ++ more in
-    let small : is_value v ≡ true = lt-ltb v 268435456 (omega arith) in
-    let is_side : v / 65536 ≡ side = omega arith in
-    let is_kind : v / 256 % 256 ≡ kind = omega arith in
-    let is_shares : v % 256 ≡ shares = omega arith in
-    let p = prices_back (has_limit_word kind) (has_stop_word kind) (word OrderWord v) limit stop tail hl ht in
-    let x = value_at rest 4 in
-    let y = value_at rest 8 in
-    as_kind OrderWord v more small
-    ∙ ap (λ n. order_of n x y) (value_1 OrderWord v more small)
-    ∙ ap (λ a. Order a (v / 256 % 256) (v % 256) (cond (has_limit_word (v / 256 % 256)) x 0) (cond (has_stop_word (v / 256 % 256)) (cond (has_limit_word (v / 256 % 256)) y x) 0)) is_side
-    ∙ ap (λ a. Order side a (v % 256) (cond (has_limit_word a) x 0) (cond (has_stop_word a) (cond (has_limit_word a) y x) 0)) is_kind
-    ∙ ap (λ a. Order side kind a (cond (has_limit_word kind) x 0) (cond (has_stop_word kind) (cond (has_limit_word kind) y x) 0)) is_shares
-    ∙ ap (λ a. Order side kind shares a (cond (has_stop_word kind) (cond (has_limit_word kind) y x) 0)) p.0
-    ∙ ap (λ a. Order side kind shares limit a) p.1
+    let rest = written (Order side kind shares limit stop) ++ tail in
+    let q = prices_back (has_limit_word kind) (has_stop_word kind) (word OrderWord v) limit stop tail p.3 p.4 in
+    ap (λ n. decode_as (word_kind_of n) rest) f.0
+    ∙ ap (λ n. order_of n (value_at rest 4) (value_at rest 8)) f.1
+    ∙ rw (f.2, f.3, f.4, q.0, q.1)
 
 -- the words of a record say what it says, whatever follows them
 decoded : (e : Entry) (tail : List ℕ) → is_writable e ≡ true → decode (written e ++ tail) ≡ e
-decoded (Start unit prior tag) tail h =
-    let p = and_parts (is_value unit && is_value prior) (is_value tag) h in
-    let q = and_parts (is_value unit) (is_value prior) p.0 in
-    let t3 = bytes_of (word Tag tag) ++ tail in
-    let t2 = bytes_of (word PriorClose prior) ++ t3 in
-    let rest = bytes_of (word UnitWord unit) ++ t2 in
-    as_kind UnitWord unit t2 q.0
-    ∙ ap (λ a. Start a (value_at rest 4) (value_at rest 8)) (value_1 UnitWord unit t2 q.0)
-    ∙ ap (λ a. Start unit a (value_at rest 8)) (value_2 (word UnitWord unit) PriorClose prior t3 q.1)
-    ∙ ap (λ a. Start unit prior a) (value_3 (word UnitWord unit) (word PriorClose prior) Tag tag tail p.1)
-decoded (Clock time) tail h = as_kind Time time tail h ∙ ap (λ a. Clock a) (value_1 Time time tail h)
+decoded (Start unit prior tag) tail h = grind (arith, nat_tests)
+decoded (Clock time) tail h = grind (arith, nat_tests)
 decoded (Order side kind shares limit stop) tail h =
-    let p = order_parts side kind shares limit stop h in order_back side kind shares limit stop tail p.0 p.1 p.2 p.3 p.4
-decoded (Cancel number) tail h = as_kind CancelWord number tail h ∙ ap (λ a. Cancel a) (value_1 CancelWord number tail h)
-decoded (Quote bid offer) tail h =
-    let p = and_parts (is_value bid) (is_value offer) h in
-    let t2 = bytes_of (word Offer offer) ++ tail in
-    as_kind Bid bid t2 p.0
-    ∙ ap (λ a. Quote a (value_at (bytes_of (word Bid bid) ++ t2) 4)) (value_1 Bid bid t2 p.0)
-    ∙ ap (λ a. Quote bid a) (value_2 (word Bid bid) Offer offer tail p.1)
-decoded (Opening price volume) tail h =
-    let p = and_parts (is_value price) (is_value volume) h in
-    let t2 = bytes_of (word Volume volume) ++ tail in
-    as_kind OpeningPrice price t2 p.0
-    ∙ ap (λ a. Opening a (value_at (bytes_of (word OpeningPrice price) ++ t2) 4)) (value_1 OpeningPrice price t2 p.0)
-    ∙ ap (λ a. Opening price a) (value_2 (word OpeningPrice price) Volume volume tail p.1)
-decoded (Trade price volume) tail h =
-    let p = and_parts (is_value price) (is_value volume) h in
-    let t2 = bytes_of (word Volume volume) ++ tail in
-    as_kind TradePrice price t2 p.0
-    ∙ ap (λ a. Trade a (value_at (bytes_of (word TradePrice price) ++ t2) 4)) (value_1 TradePrice price t2 p.0)
-    ∙ ap (λ a. Trade price a) (value_2 (word TradePrice price) Volume volume tail p.1)
-decoded Close tail h = as_kind CloseWord 0 tail refl
+    order_back side kind shares limit stop tail h
+decoded (Cancel number) tail h = grind (arith, nat_tests)
+decoded (Quote bid offer) tail h = grind (arith, nat_tests)
+decoded (Opening price volume) tail h = grind (arith, nat_tests)
+decoded (Trade price volume) tail h = grind (arith, nat_tests)
+decoded Close tail h = grind (arith, nat_tests)
 
 -- lists that begin with the words of two records begin with those of one
 same_entry : (e f : Entry) (a b : List ℕ) → is_writable e ≡ true → is_writable f ≡ true → written e ++ a ≡ written f ++ b → (e ≡ f) × (a ≡ b)
@@ -176,7 +120,7 @@ pub record Parts (file : List ℕ) (es : List Entry) (fault : Option Fault) : Ty
   pub fault_is : fault ≡ fault_for es rest
 
 none_of_once : starts_once [] ≡ true → ⊥
-none_of_once h = let z : ◌≡◌ {A = ℕ} 0 1 = cc in omega arith
+none_of_once h = cc
 
 whole_fault : (es : List Entry) → starts_once es ≡ true → None ≡ fault_for es []
 whole_fault [] h = absurd (none_of_once h)
@@ -229,7 +173,7 @@ parts_of file _ _ short (later_faulty es place r b before none is) =
     }
 
 first_starts : (e : Entry) (es : List Entry) → (◌≡◌ {A = List Entry} (e ∷ es) []) ⊎ (starts_once (e ∷ es) ≡ true) → starts_once (e ∷ es) ≡ true
-first_starts e es (inl none) = let z : ◌≡◌ {A = ℕ} 0 1 = cc in absurd (omega arith)
+first_starts e es (inl none) = cc
 first_starts e es (inr once) = once
 
 -- a list of records that the file begins with, against none
@@ -274,3 +218,7 @@ one_reading file es fault h fs other k =
     (b.0 ∙ sym a.0, b.1 ∙ sym a.1))
     (λ short. same_parts file es fs fault other (parts_of file es fault short h) (parts_of file fs other short k))
     (cases_lt 65536 (length file))
+
+-- a file with this fault is counted by it
+pub faulty_count : (file : List ℕ) (es : List Entry) (f : Fault) → FileReads file es (Some f) → Counted file (Err f)
+faulty_count file es f h = (es, h, one_reading file es (Some f) h)

@@ -5,3 +5,4 @@ pub mod Records
 pub mod Faults
 pub mod Reading
 pub mod Files
+pub mod Steps

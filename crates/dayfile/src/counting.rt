@@ -3,6 +3,7 @@ ghost use Rattle.dayfile.specs.Files.{Counted};
 
 use crate::fault::Fault;
 use crate::reading::record_at;
+use crate::records::Records;
 
 // How many records a file has, or its fault. A file without a fault is exactly its records' words joined, start first
 // and once.
@@ -12,12 +13,11 @@ pub fn count_records(file: &[u8]) -> Result<usize, Fault>
     if file.len() > 65_536 {
         return Err(Fault::too_long());
     }
+    // The start is read apart: where the file has no bytes, it is cut.
     let start = record_at(file, 0)?;
-    let mut place = start.record.part().len();
     let mut count = 1;
-    while place < file.len() {
-        let found = record_at(file, place)?;
-        place += found.record.part().len();
+    for found in Records::new(file, start.record.part().len()) {
+        found?;
         count += 1;
     }
     Ok(count)

@@ -1,6 +1,7 @@
 // What records say, in plain numbers.
 
 // The values of a record's words. A price that an order's kind has no word for is 0.
+// Numbers in place of sides, kinds and options, by a rule of the project: the reader judges no field, the day does.
 #[derive(Clone, Copy, PartialEq, Eq, Debug)]
 pub enum Entry {
     Start {

@@ -1,69 +1,60 @@
 // The kinds of words.
-ghost use Rattle.std.specs.Prelude.{◌≡◌};
+ghost use Rattle.std.specs.Prelude.{◌≡◌, ok_or};
 ghost use Rattle.dayfile.specs.Kinds.{word_kind_number, word_kind_of};
 
-// What a word's value is. Unit, prior close and tag make a start; limit and stop follow an order.
-#[derive(Clone, Copy)]
+use market::numbered::UnknownNumber;
+
+// What a word's value is, with the number that the top four bits of the word have. Unit, prior close and tag make a
+// start; limit and stop follow an order.
+#[derive(Clone, Copy, PartialEq, Eq, Debug)]
 pub enum WordKind {
-    Time,
-    Order,
-    Limit,
-    Stop,
-    Cancel,
-    Bid,
-    Offer,
-    OpeningPrice,
-    TradePrice,
-    Volume,
-    Close,
-    Unit,
-    PriorClose,
-    Tag,
+    Time = 1,
+    Order = 2,
+    Limit = 3,
+    Stop = 4,
+    Cancel = 5,
+    Bid = 6,
+    Offer = 7,
+    OpeningPrice = 8,
+    TradePrice = 9,
+    Volume = 10,
+    Close = 11,
+    Unit = 12,
+    PriorClose = 13,
+    Tag = 14,
 }
 
-impl WordKind {
-    // The number that the top four bits of a word have.
-    pub fn number(self) -> u32
-        ensures { result ≡ word_kind_number self }
-    {
-        match self {
-            WordKind::Time => 1,
-            WordKind::Order => 2,
-            WordKind::Limit => 3,
-            WordKind::Stop => 4,
-            WordKind::Cancel => 5,
-            WordKind::Bid => 6,
-            WordKind::Offer => 7,
-            WordKind::OpeningPrice => 8,
-            WordKind::TradePrice => 9,
-            WordKind::Volume => 10,
-            WordKind::Close => 11,
-            WordKind::Unit => 12,
-            WordKind::PriorClose => 13,
-            WordKind::Tag => 14,
-        }
-    }
+impl From<WordKind> for u32 {
+    ghost from_gives = { λ kind n. n ≡ word_kind_number kind };
 
-    // The kind with a number, or none: 0 and 15 are no kinds.
-    pub fn from_number(n: u32) -> Option<WordKind>
-        ensures { result ≡ word_kind_of n }
-    {
+    fn from(kind: WordKind) -> u32 {
+        kind as u32
+    }
+}
+
+// 0 and 15 are no kinds.
+impl TryFrom<u32> for WordKind {
+    type Error = UnknownNumber;
+
+    ghost try_from_gives = { λ n r. r ≡ ok_or (word_kind_of n) (record { 0 = n }) };
+
+    fn try_from(n: u32) -> Result<WordKind, UnknownNumber> {
         match n {
-            1 => Some(WordKind::Time),
-            2 => Some(WordKind::Order),
-            3 => Some(WordKind::Limit),
-            4 => Some(WordKind::Stop),
-            5 => Some(WordKind::Cancel),
-            6 => Some(WordKind::Bid),
-            7 => Some(WordKind::Offer),
-            8 => Some(WordKind::OpeningPrice),
-            9 => Some(WordKind::TradePrice),
-            10 => Some(WordKind::Volume),
-            11 => Some(WordKind::Close),
-            12 => Some(WordKind::Unit),
-            13 => Some(WordKind::PriorClose),
-            14 => Some(WordKind::Tag),
-            _ => None,
+            1 => Ok(WordKind::Time),
+            2 => Ok(WordKind::Order),
+            3 => Ok(WordKind::Limit),
+            4 => Ok(WordKind::Stop),
+            5 => Ok(WordKind::Cancel),
+            6 => Ok(WordKind::Bid),
+            7 => Ok(WordKind::Offer),
+            8 => Ok(WordKind::OpeningPrice),
+            9 => Ok(WordKind::TradePrice),
+            10 => Ok(WordKind::Volume),
+            11 => Ok(WordKind::Close),
+            12 => Ok(WordKind::Unit),
+            13 => Ok(WordKind::PriorClose),
+            14 => Ok(WordKind::Tag),
+            _ => Err(UnknownNumber(n)),
         }
     }
 }

@@ -7,5 +7,6 @@ pub mod fault;
 mod kind;
 pub mod reading;
 pub mod record;
+pub mod records;
 pub mod says;
 mod word;

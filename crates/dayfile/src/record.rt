@@ -1,6 +1,6 @@
 // Records as parts of a file.
 
-// A record of a day file, with the bytes of its words.
+// A record of a day file, with the bytes of its words. A rule of the project: each case holds a part of the file.
 #[derive(Clone, Copy)]
 pub enum Record<'a> {
     Start(&'a [u8]),

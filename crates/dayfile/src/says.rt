@@ -4,17 +4,18 @@ ghost use Rattle.dayfile.specs.Records.{entry_of, order_of, part_of};
 ghost use Rattle.dayfile.specs.Words.{value_at};
 
 use crate::entry::Entry;
-use crate::reading::price_words;
 use crate::record::Record;
+use market::kind::Kind;
 
 // The byte at a place of a record's part; 0 past its end, where no record that was read has a word.
 fn byte_at(part: &[u8], at: usize) -> u8
     ensures { result ≡ slice_index part.now at }
 {
-    if at < part.len() { part[at] } else { 0 }
+    part.get(at).copied().unwrap_or(0)
 }
 
-// The value of the word at a place of a record's part.
+// The value of the word at a place of a record's part. Byte by byte, since the promise also holds where the part ends
+// inside the word, and a pattern of four bytes would be no plainer with that case beside it.
 fn value_at(part: &[u8], at: usize) -> u32
     requires { at < 9 }
     ensures { result ≡ value_at part.now at }
@@ -29,18 +30,23 @@ fn value_at(part: &[u8], at: usize) -> u32
 }
 
 // The fields of an order, from the values of its words.
+#[tactic(auto, using(crate::proofs::Prices::no_prices))]
 fn order_of(first: u32, second: u32, third: u32) -> Entry
     ensures { result ≡ order_of first second third }
 {
     let kind = first / 256 % 256;
-    let (has_limit, has_stop) = price_words(kind);
-    let stop = if has_limit { third } else { second };
+    let (limit, stop) = match Kind::try_from(kind) {
+        Ok(Kind::Limit) => (second, 0),
+        Ok(Kind::Stop) => (0, second),
+        Ok(Kind::StopLimit) => (second, third),
+        Ok(Kind::Market) | Err(_) => (0, 0),
+    };
     Entry::Order {
         side: first / 65_536,
         kind,
         shares: first % 256,
-        limit: if has_limit { second } else { 0 },
-        stop: if has_stop { stop } else { 0 },
+        limit,
+        stop,
     }
 }
 
@@ -50,14 +56,14 @@ impl Record<'_> {
         ensures { result.now ≡ part_of self.now }
     {
         match self {
-            Record::Start(part) => part,
-            Record::Clock(part) => part,
-            Record::Order(part) => part,
-            Record::Cancel(part) => part,
-            Record::Quote(part) => part,
-            Record::Opening(part) => part,
-            Record::Trade(part) => part,
-            Record::Close(part) => part,
+            Record::Start(part)
+            | Record::Clock(part)
+            | Record::Order(part)
+            | Record::Cancel(part)
+            | Record::Quote(part)
+            | Record::Opening(part)
+            | Record::Trade(part)
+            | Record::Close(part) => part,
         }
     }
 

@@ -1,6 +1,6 @@
-// Words, read from the rest of a file at a record.
-ghost use Rattle.std.specs.Prelude.{◌≡◌};
-ghost use Rattle.dayfile.specs.Reading.{Expected, WordRead};
+// Words, read from what is left of a file at a record.
+ghost use Rattle.std.specs.Prelude.{◌≡◌, ◌≤◌, length};
+ghost use Rattle.dayfile.specs.Reading.{Expected, WordRead, WordsRead};
 
 use crate::fault::Fault;
 use crate::kind::WordKind;
@@ -13,40 +13,59 @@ pub(crate) struct Word {
     pub(crate) value: u32,
 }
 
-// The word at a byte of the rest of a file, which begins with the record at `place`.
-pub(crate) fn word_at(rest: &[u8], at: usize, place: usize) -> Result<Word, Fault>
-    ensures { WordRead rest.now at place result }
-{
-    if rest.len() < at || rest.len() - at < 4 {
-        return Err(Fault {
-            reason: Refusal::FileCut,
-            place,
-        });
-    }
-    let word = u32::from_be_bytes([rest[at], rest[at + 1], rest[at + 2], rest[at + 3]]);
-    match WordKind::from_number(word / 0x1000_0000) {
-        Some(kind) => Ok(Word {
-            kind,
-            value: word % 0x1000_0000,
-        }),
-        None => Err(Fault {
-            reason: Refusal::BadWord,
-            place,
-        }),
-    }
+// What is left of a file at a record, and the byte place where that record begins.
+#[derive(Clone, Copy)]
+pub(crate) struct Rest<'a> {
+    pub(crate) bytes: &'a [u8],
+    pub(crate) place: usize,
 }
 
-// A word of one kind has to stand here.
-pub(crate) fn expect(rest: &[u8], at: usize, kind: WordKind, place: usize) -> Result<(), Fault>
-    ensures { Expected rest.now at kind place result }
-{
-    let word = word_at(rest, at, place)?;
-    if word.kind.number() == kind.number() {
-        Ok(())
-    } else {
-        Err(Fault {
-            reason: Refusal::BadWord,
-            place,
-        })
+impl<'a> Rest<'a> {
+    // The fault of the record, for this reason.
+    pub(crate) fn fault(self, reason: Refusal) -> Fault
+        ensures { result ≡ record { reason = reason; place = self.entry.place } }
+    {
+        Fault {
+            reason,
+            place: self.place,
+        }
+    }
+
+    // The word at a byte of what is left.
+    pub(crate) fn word(self, at: usize) -> Result<Word, Fault>
+        ensures { WordRead self.entry at result }
+    {
+        let Some([a, b, c, d, ..]) = self.bytes.get(at..) else {
+            return Err(self.fault(Refusal::FileCut));
+        };
+        let word = u32::from_be_bytes([*a, *b, *c, *d]);
+        let Ok(kind) = WordKind::try_from(word / 0x1000_0000) else {
+            return Err(self.fault(Refusal::BadWord));
+        };
+        let value = word % 0x1000_0000;
+        Ok(Word { kind, value })
+    }
+
+    // A word of one kind has to stand here.
+    pub(crate) fn expect(self, at: usize, kind: WordKind) -> Result<(), Fault>
+        ensures { Expected self.entry at kind result }
+    {
+        let word = self.word(at)?;
+        if word.kind == kind {
+            Ok(())
+        } else {
+            Err(self.fault(Refusal::BadWord))
+        }
+    }
+
+    // The bytes of a first word that was read, and of words of these kinds that have to follow it.
+    pub(crate) fn words(self, kinds: &[WordKind]) -> Result<&'a [u8], Fault>
+        requires { 4 ≤ length self.bytes.now }
+        ensures { WordsRead self.entry kinds.now result }
+    {
+        for (i, kind) in kinds.iter().enumerate() {
+            self.expect(4 + 4 * i, *kind)?;
+        }
+        Ok(&self.bytes[..4 + 4 * kinds.len()])
     }
 }

@@ -3,6 +3,8 @@ use dayfile::counting::count_records;
 use dayfile::entry::Entry;
 use dayfile::fault::Fault;
 use dayfile::reading::record_at;
+use dayfile::record::Placed;
+use dayfile::records::Records;
 use market::refusal::Refusal;
 use std::test::Fail;
 
@@ -174,5 +176,29 @@ fn lengths(rt: HostRuntime) -> Result<(), Fail> {
     assert_eq!(rt; count_records(file.as_slice()), Ok(16_382));
     file.push(0)?;
     assert_eq!(rt; count_records(file.as_slice()), Err(Fault::too_long()));
+    Ok(())
+}
+
+// Where a record that was found begins.
+fn place_of(found: Result<Placed<'_>, Fault>) -> Result<usize, Fault> {
+    found.map(|placed| placed.place)
+}
+
+// Records come one after another from a place on, and a fault is the last that comes.
+#[test]
+fn one_after_another(rt: HostRuntime) -> Result<(), Fail> {
+    let mut places = Vec::new(rt.alloc());
+    for found in Records::new(&FILE, 48) {
+        places.push(place_of(found)?)?;
+    }
+    assert_eq!(rt; places.as_slice(), [48, 52, 56, 64, 72, 76].as_slice());
+    let mut cut = Records::new(&FILE[0..27], 16);
+    let fault = Fault {
+        reason: Refusal::FileCut,
+        place: 20,
+    };
+    assert_eq!(rt; cut.next().map(place_of), Some(Ok(16)));
+    assert_eq!(rt; cut.next().map(place_of), Some(Err(fault)));
+    assert_eq!(rt; cut.next().map(place_of), None);
     Ok(())
 }
