@@ -1,6 +1,6 @@
 // The kinds of words.
 ghost use Rattle.std.specs.Prelude.{◌≡◌, ok_or};
-ghost use Rattle.dayfile.specs.Kinds.{word_kind_number, word_kind_of};
+ghost use Rattle.dayfile.specs.Kinds.{word_kind_of};
 
 use market::numbered::UnknownNumber;
 
@@ -22,14 +22,6 @@ pub enum WordKind {
     Unit = 12,
     PriorClose = 13,
     Tag = 14,
-}
-
-impl From<WordKind> for u32 {
-    ghost from_gives = { λ kind n. n ≡ word_kind_number kind };
-
-    fn from(kind: WordKind) -> u32 {
-        kind as u32
-    }
 }
 
 // 0 and 15 are no kinds.

@@ -1,7 +1,6 @@
-use Rattle.std.proofs.Common.{sym, ap, ◌∙◌, arith, take_all}
+use Rattle.std.proofs.Common.{sym, ◌∙◌, arith}
 use Rattle.std.proofs.lemmas.Int.{ints}
 use Rattle.ledger.specs.Journals.{paid_of}
-use Rattle.ledger.specs.Sums.{sum_z}
 use Rattle.ledger.proofs.Added.{sum_z_more}
 use Rattle.ledger.proofs.journal_ledger.money_of.Goals as goal
 
@@ -9,10 +8,3 @@ pub loop-row-preserved : goal.loop-row-preserved
 loop-row-preserved c =
     let next = sum_z_more paid_of c.args.rows.now c.loop-row.row-index c.row-item.result c.loop-row.sum c.paid-sum.result c.loop-row-test.true (sym c.loop-row.sum-is ∙ c.loop-row.invariant.2) c.row-item.is c.paid-sum.ensures.value in
     (omega arith, (omega (arith, ints), omega (arith, ints)), omega (arith, ints, next))
-
-pub returns : goal.returns
-returns c =
-    record {
-      value = c.loop-row.invariant.2 ∙ ap (sum_z paid_of) (take_all c.loop-row.row-index c.args.rows.now c.loop-row-test.false);
-      bound = (omega (arith, ints), omega (arith, ints));
-    }
