@@ -4,4 +4,5 @@ pub mod Doing
 pub mod Running
 pub mod Reaching
 pub mod Balance
+pub mod Bounded
 pub mod Finishing

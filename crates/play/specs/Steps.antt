@@ -1,6 +1,5 @@
 -- A play under way: the definition's run, and the day, the ledger and the output that the player holds.
-use Rattle.std.specs.Prelude.{◌≡◌, ℕ, ◌+◌, ◌*◌, ◌≤◌, List, [], ◌∷◌, ◌++◌, length, drop, Some, None, Ok, Err, Result}
-use Rattle.market.specs.Terms.{refusal_number}
+use Rattle.std.specs.Prelude.{◌≡◌, ℕ, ◌+◌, ◌≤◌, List, [], ◌∷◌, ◌++◌, length, drop, Some, None, Ok, Err, Result}
 use Rattle.market.specs.declared.refusal.Refusal.{Refusal}
 use Rattle.market.specs.declared.refusal.Refusal.TheVariants.{OutputShort}
 use Rattle.ledger.specs.Posting.{Numbers, numbers}
@@ -17,6 +16,7 @@ use Rattle.dayfile.specs.declared.entry.Entry.{Entry}
 use Rattle.dayfile.specs.declared.fault.Fault.{Fault}
 use Rattle.play.specs.Plays.{last_line}
 use Rattle.play.specs.Runs.{Run, called, run_of}
+use Rattle.play.specs.declared.ending.Ending.{Ending}
 use Rattle.play.specs.declared.line.Line.{Line}
 use Rattle.play.specs.declared.printed.Printed.{Printed}
 
@@ -71,14 +71,15 @@ abbrev pub RestPlayed : List ℕ → ℕ → State → Numbers → List ℕ → 
 RestPlayed file place s n out p r after q =
     (was : List ℕ) (es : List Entry) → Reached file es place 1 was s n out p → FilePlayed file was r after q
 
--- n: 18 where a line is cut off, else another
-abbrev pub cut_number : List Line → ℕ → ℕ
-cut_number [] n = n
-cut_number (l ∷ ls) n = refusal_number OutputShort
+-- what ends the lines early: 18 where a line is cut off, else what would without that
+abbrev pub cut_end : List Line → Result (Unit {0}) Refusal → Result (Unit {0}) Refusal
+cut_end [] end = end
+cut_end (l ∷ ls) end = Err OutputShort
 
--- lines are printed to the last, and an answer is given that ends in 18 or another number
-pub record Finished (was : List ℕ) (lines : List Line) (n : ℕ) (out : List ℕ) (answer : ℕ) : Type 0 where
+-- lines are printed to the last, and the play ends with 18, or as it would without that
+pub record Finished (was : List ℕ) (lines : List Line) (end : Result (Unit {0}) Refusal) (out : List ℕ) (ending : Ending) : Type 0 where
   pub shown : List Line
   pub cut : List Line
   pub shows : Shown was lines out shown cut
-  pub answers : answer ≡ length (texts_of shown) * 32 + cut_number cut n
+  pub written : ending.written ≡ length (texts_of shown)
+  pub ends : ending.end ≡ cut_end cut end

@@ -81,8 +81,7 @@ pub(crate) fn play_call(
     page: Printed,
 ) -> Printed
     requires { length report.old ≡ 512 }
-    ensures advanced { Advanced call «record» (state_of day.old.live) (totals_of day.old.ledger) out.old page (state_of day.new.live) (totals_of day.new.ledger) out.new result }
-    ensures bound { result.used ≤ page.used + 32768 }
+    ensures { Advanced call «record» (state_of day.old.live) (totals_of day.old.ledger) out.old page (state_of day.new.live) (totals_of day.new.ledger) out.new result }
 {
     match make_call(day, call, report) {
         Ok(n) => print_rows(out, page, &report[0..n]),

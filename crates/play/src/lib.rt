@@ -2,7 +2,9 @@
 #![tactic(auto)]
 
 mod calls;
+pub mod ending;
 mod line;
+mod packing;
 pub mod play;
 mod playing;
 mod printed;

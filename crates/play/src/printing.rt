@@ -15,8 +15,7 @@ fn finds_room(page: Printed, size: usize, room: usize) -> bool
 
 // Prints a line behind those before it, whole, or not at all where it finds no room.
 pub(crate) fn print(out: &mut [u8], page: Printed, line: Line) -> Printed
-    ensures wrote { Wrote (line ∷ []) out.old page out.new result }
-    ensures bound { result.used ≤ page.used + 64 }
+    ensures { Wrote (line ∷ []) out.old page out.new result }
 {
     let text = line.text();
     let used = page.used;
@@ -35,8 +34,7 @@ pub(crate) fn print(out: &mut [u8], page: Printed, line: Line) -> Printed
 
 // Prints the rows of a report.
 pub(crate) fn print_rows(out: &mut [u8], page: Printed, rows: &[Row]) -> Printed
-    ensures wrote { Wrote (map Line.Row rows.now) out.old page out.new result }
-    ensures bound { result.used ≤ page.used + 64 * length rows.now }
+    ensures { Wrote (map Line.Row rows.now) out.old page out.new result }
 {
     let mut printed = page;
     for row in rows {

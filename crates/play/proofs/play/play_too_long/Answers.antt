@@ -1,8 +1,6 @@
-use Rattle.std.proofs.Common.{ℕ, [], Some, sym, subst}
+use Rattle.std.proofs.Common.{[], Some, sym, subst}
 use Rattle.dayfile.specs.Files.{FileReads, too_long}
 use Rattle.dayfile.specs.declared.fault.Fault.{Fault}
-use Rattle.play.specs.Plays.{lines_of}
-use Rattle.play.specs.Steps.{Finished}
 use Rattle.play.proofs.Finishing.{played}
 use Rattle.play.proofs.Paged.{page_none}
 use Rattle.play.proofs.play.play_too_long.Goals as goal
@@ -13,4 +11,4 @@ returns c file long =
     let was = c.args.out.now in
     played file was c.finish.new.out c.finish.result [] (Some f)
     (subst (λ (x : Fault). FileReads file [] (Some x)) (sym c.too_long-fault.ensures) (too_long long))
-    (subst (λ (n : ℕ). Finished was (lines_of [] (Some f)) n c.finish.new.out c.finish.result) c.number.ensures (c.finish.ensures was [] (page_none was)))
+    (c.finish.ensures was [] (page_none was))

@@ -12,16 +12,13 @@ use Rattle.play.proofs.Reaching.{reached_first}
 use Rattle.play.proofs.playing.play_file.Goals as goal
 
 pub returns-then-file-gt65536 : goal.returns-then-file-gt65536
-returns-then-file-gt65536 c = record { played = ([], rw c.too_long.ensures (too_long (omega arith)), page_none c.args.out.now); bound = omega arith }
+returns-then-file-gt65536 c = ([], rw c.too_long.ensures (too_long (omega arith)), page_none c.args.out.now)
 
 pub returns-in_err-start : goal.returns-in_err-start
 returns-in_err-start c =
     let p = err_from_is_err_and c.from_residual.result c.from_residual.ensures.1 in
     let q = c.in_err-start.ensures in
-    record {
-      played = rw (p.1, p.2) ([], reads_first c.args.file.now c.in_err-start.field-0.0 (omega arith) q.0 q.1 q.2, page_none c.args.out.now);
-      bound = omega arith;
-    }
+    rw (p.1, p.2) ([], reads_first c.args.file.now c.in_err-start.field-0.0 (omega arith) q.0 q.1 q.2, page_none c.args.out.now)
 
 pub play_rest-requires : goal.play_rest-requires
 play_rest-requires c =
@@ -33,7 +30,6 @@ play_rest-requires c =
       inside = omega (arith, size, part_inside true file 0 x (omega arith) stands);
       short = omega arith;
       past = omega (arith, size, part_some true file x stands);
-      little = omega (arith, c.open_day-day.ensures.bound);
     }
 
 pub returns : goal.returns
@@ -41,8 +37,5 @@ returns c =
     let x = c.in_ok-start.start.record in
     let stands = c.in_ok-start.ensures.0 in
     let size : length c.part.result.now ≡ length (part_of x) = ap length c.part.ensures in
-    let at = subst (λ (e : Entry). At (followed unmade (instruction_of e)) c.args.out.now (state_of c.open_day-day.result.0.live) (totals_of c.open_day-day.result.0.ledger) c.open_day-day.new.out c.open_day-day.result.1) c.entry.ensures c.open_day-day.ensures.at in
-    record {
-      played = c.play_rest.ensures.played c.args.out.now (entry_of x ∷ []) (reached_first c.args.file.now c.args.out.now _ _ _ _ x _ (omega arith) stands size at);
-      bound = c.play_rest.ensures.bound;
-    }
+    let at = subst (λ (e : Entry). At (followed unmade (instruction_of e)) c.args.out.now (state_of c.open_day-day.result.0.live) (totals_of c.open_day-day.result.0.ledger) c.open_day-day.new.out c.open_day-day.result.1) c.entry.ensures c.open_day-day.ensures in
+    c.play_rest.ensures c.args.out.now (entry_of x ∷ []) (reached_first c.args.file.now c.args.out.now _ _ _ _ x _ (omega arith) stands size at)

@@ -11,7 +11,7 @@ use Rattle.play.proofs.playing.play_rest.Goals as goal
 
 pub call_in-call-requires : goal.call_in-call-requires
 call_in-call-requires c =
-    let past : 0 < c.loop-place.place = omega (arith, c.loop-place.invariant.3, c.loop-place.invariant.5) in
+    let past : 0 < c.loop-place.place = omega (arith, c.loop-place.invariant.2, c.loop-place.invariant.4) in
     let stands = later_record c.args.file.now c.loop-place.place c.in_ok-found.found.record past c.in_ok-found.ensures.0 in
     ap is_start c.entry.ensures ∙ stands.in_place
 
@@ -20,43 +20,36 @@ loop-place-preserved c =
     let file = c.args.file.now in
     let at = c.loop-place.place in
     let x = c.in_ok-found.found.record in
-    let past : 0 < at = omega (arith, c.loop-place.invariant.3, c.loop-place.invariant.5) in
+    let past : 0 < at = omega (arith, c.loop-place.invariant.2, c.loop-place.invariant.4) in
     let stands = later_record file at x past c.in_ok-found.ensures.0 in
     let size : length (part_of x) ≡ length c.part.result.now = ap length (sym c.part.ensures) in
     let some = part_some _ (drop at file) x stands in
-    let inside = part_inside _ file at x c.loop-place.invariant.4 stands in
+    let inside = part_inside _ file at x c.loop-place.invariant.3 stands in
     let is : instruction_of (entry_of x) ≡ call c.call_in-call.result = ap instruction_of (sym c.entry.ensures) ∙ c.call_in-call.ensures in (
       λ was es reached.
           let r = c.loop-place.invariant.0 was es reached in (
             r.0 ++ entry_of x ∷ [],
             subst (λ (n : ℕ). Reached file (r.0 ++ entry_of x ∷ []) (at + n) (c.loop-place.record + 1) was (state_of c.play_call.new.day.live) (totals_of c.play_call.new.day.ledger) c.play_call.new.out c.play_call.result) size
-                (reached_more file r.0 at c.loop-place.record was (state_of c.loop-place.day.live) (totals_of c.loop-place.day.ledger) c.loop-place.out c.loop-place.page x c.call_in-call.result (state_of c.play_call.new.day.live) (totals_of c.play_call.new.day.ledger) c.play_call.new.out c.play_call.result r.1 stands is c.play_call.ensures.advanced),
+                (reached_more file r.0 at c.loop-place.record was (state_of c.loop-place.day.live) (totals_of c.loop-place.day.ledger) c.loop-place.out c.loop-place.page x c.call_in-call.result (state_of c.play_call.new.day.live) (totals_of c.play_call.new.day.ledger) c.play_call.new.out c.play_call.result r.1 stands is c.play_call.ensures),
           ),
       search rules,
-      omega (arith, c.play_call.ensures.bound, c.loop-place.invariant.2),
-      omega (arith, some, size, c.loop-place.invariant.3),
+      omega (arith, some, size, c.loop-place.invariant.2),
       omega (arith, inside, size),
-      omega (arith, c.loop-place.invariant.5),
+      omega (arith, c.loop-place.invariant.4),
     )
 
 pub returns-in_err-found : goal.returns-in_err-found
 returns-in_err-found c =
     let p = err_from_is_err_and c.from_residual.result c.from_residual.ensures.1 in
     let q = c.in_err-found.ensures in
-    record {
-      played = λ was es reached.
-          let r = c.loop-place.invariant.0 was es reached in
-          rw (p.1, p.2) (reached_fault c.args.file.now r.0 c.loop-place.place c.loop-place.record was (state_of c.loop-place.day.live) (totals_of c.loop-place.day.ledger) c.loop-place.out c.loop-place.page c.in_err-found.field-0.0 r.1 c.loop-place-test.true q.0 q.1 q.2);
-      bound = omega (arith, c.loop-place.invariant.2, c.loop-place.invariant.3, c.loop-place.invariant.4, c.requires.short);
-    }
+    λ was es reached.
+    let r = c.loop-place.invariant.0 was es reached in
+    rw (p.1, p.2) (reached_fault c.args.file.now r.0 c.loop-place.place c.loop-place.record was (state_of c.loop-place.day.live) (totals_of c.loop-place.day.ledger) c.loop-place.out c.loop-place.page c.in_err-found.field-0.0 r.1 c.loop-place-test.true q.0 q.1 q.2)
 
 pub returns : goal.returns
 returns c =
     let shares : to_z w64 (of_z w64 c.shares.result) ≡ c.loop-place.day.ledger.shares = search rules in
     let money : to_z w64 (of_z w64 c.money.result) ≡ c.loop-place.day.ledger.money = search rules in
-    record {
-      played = λ was es reached.
-          let r = c.loop-place.invariant.0 was es reached in
-          reached_end c.args.file.now r.0 c.loop-place.place c.loop-place.record was (state_of c.loop-place.day.live) (totals_of c.loop-place.day.ledger) c.loop-place.out c.loop-place.page _ _ r.1 c.loop-place-test.false shares money;
-      bound = omega (arith, c.loop-place.invariant.2, c.loop-place.invariant.3, c.loop-place.invariant.4, c.requires.short);
-    }
+    λ was es reached.
+    let r = c.loop-place.invariant.0 was es reached in
+    reached_end c.args.file.now r.0 c.loop-place.place c.loop-place.record was (state_of c.loop-place.day.live) (totals_of c.loop-place.day.ledger) c.loop-place.out c.loop-place.page _ _ r.1 c.loop-place-test.false shares money

@@ -7,7 +7,6 @@ abbrev pub invariant-loop-place : goal.invariant-loop-place
 invariant-loop-place l =
     GoesOn l.file l.initial.place l.initial.record (state_of l.initial.day.live) (totals_of l.initial.day.ledger) l.initial.out l.initial.page l.place l.record (state_of l.day.live) (totals_of l.day.ledger) l.out l.page
     × (length l.report ≡ 512)
-    × (l.page.used ≤ 32768 * l.record)
     × (4 * l.record ≤ l.place)
     × (l.place ≤ length l.file)
     × (1 ≤ l.record)

@@ -10,10 +10,7 @@ returns-then-not-finds_room c =
     let size : length (text_in c.text-text.result) ≡ c.text-text.result.len = search (rules, length-take-le) in
     let why = no_room c.args.page.full (c.args.page.used + c.text-text.result.len) (length c.args.out.now) (sym c.if-not-finds_room.ensures) in
     let text = ap length (sym c.text-text.ensures) ∙ size in
-    record {
-      wrote = λ was earlier pg. page_cut was earlier c.args.out.now c.args.page _ c.args.line refl refl (elim why [ inl f ↦ inl f | inr room ↦ inr (omega (arith, text, room)) ]) pg;
-      bound = omega arith;
-    }
+    λ was earlier pg. page_cut was earlier c.args.out.now c.args.page _ c.args.line refl refl (elim why [ inl f ↦ inl f | inr room ↦ inr (omega (arith, text, room)) ]) pg
 
 pub returns : goal.returns
 returns c =
@@ -25,9 +22,6 @@ returns c =
     let whole : n - 0 ≡ n = omega arith in
     let same : used + n - used ≡ n = omega arith in
     let text : c.copy_from_slice.new.self ≡ text_in c.text-text.result = c.copy_from_slice.ensures.after ∙ ap (λ k. take k c.text-text.result.bytes) whole in
-    record {
-      wrote = λ was earlier pg.
-          page_more was earlier out _ c.args.page _ c.args.line c.copy_from_slice.new.self n (text ∙ c.text-text.ensures) (sym (ap length text ∙ size)) refl refl fits.0 fits.1
-          (ap (λ k. put_mid used k out c.copy_from_slice.new.self) same) pg;
-      bound = omega (arith, c.text-text.result.fits);
-    }
+    λ was earlier pg.
+    page_more was earlier out _ c.args.page _ c.args.line c.copy_from_slice.new.self n (text ∙ c.text-text.ensures) (sym (ap length text ∙ size)) refl refl fits.0 fits.1
+    (ap (λ k. put_mid used k out c.copy_from_slice.new.self) same) pg

@@ -1,4 +1,4 @@
-use Rattle.std.proofs.Common.{List, map, subst, arith}
+use Rattle.std.proofs.Common.{List, map, subst}
 use Rattle.std.proofs.lemmas.List.{take_all}
 use Rattle.book.specs.declared.row.Row.{Row as BookRow}
 use Rattle.play.specs.Pages.{Wrote}
@@ -7,19 +7,14 @@ use Rattle.play.proofs.Paged.{wrote_none, wrote_row}
 use Rattle.play.proofs.printing.print_rows.Goals as goal
 
 pub loop-row-init : goal.loop-row-init
-loop-row-init c = (wrote_none c.args.out.now c.args.page, omega arith)
+loop-row-init c = wrote_none c.args.out.now c.args.page
 
 pub loop-row-preserved : goal.loop-row-preserved
-loop-row-preserved c = (
-  wrote_row c.args.rows.now c.loop-row.row-index c.args.out.now c.loop-row.out c.print-printed.new.out c.args.page c.loop-row.printed c.print-printed.result
-      c.loop-row-test.true c.loop-row.invariant.0 c.print-printed.ensures.wrote,
-  omega (arith, c.print-printed.ensures.bound, c.loop-row.invariant.1),
-)
+loop-row-preserved c =
+    wrote_row c.args.rows.now c.loop-row.row-index c.args.out.now c.loop-row.out c.print-printed.new.out c.args.page c.loop-row.printed c.print-printed.result
+    c.loop-row-test.true c.loop-row.invariant c.print-printed.ensures
 
 pub returns : goal.returns
 returns c =
     let all = take_all c.loop-row.row-index c.args.rows.now c.loop-row-test.false in
-    record {
-      wrote = subst (λ (xs : List BookRow). Wrote (map Row xs) c.args.out.now c.args.page c.loop-row.out c.loop-row.printed) all c.loop-row.invariant.0;
-      bound = omega arith;
-    }
+    subst (λ (xs : List BookRow). Wrote (map Row xs) c.args.out.now c.args.page c.loop-row.out c.loop-row.printed) all c.loop-row.invariant
