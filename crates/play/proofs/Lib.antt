@@ -1,4 +1,3 @@
-pub mod Signs
 pub mod Paged
 pub mod Doing
 pub mod Running

@@ -1,5 +1,4 @@
 pub mod Lines
-pub mod Texts
 pub mod Pages
 pub mod Endings
 pub mod Runs

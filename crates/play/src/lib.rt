@@ -9,5 +9,4 @@ pub mod play;
 mod playing;
 mod printed;
 mod printing;
-mod text;
 mod writing;

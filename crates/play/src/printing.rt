@@ -19,13 +19,12 @@ pub(crate) fn print(out: &mut [u8], page: Printed, line: Line) -> Printed
 {
     let text = line.text();
     let used = page.used;
-    let size = text.len;
+    let size = text.len();
     if !finds_room(page, size, out.len()) {
         return Printed { used, full: true };
     }
     let end = used + size;
-    let part = &text.bytes[0..size];
-    out[used..end].copy_from_slice(part);
+    out[used..end].copy_from_slice(text.as_bytes());
     Printed {
         used: end,
         full: false,
