@@ -19,8 +19,10 @@ use Rattle.play.proofs.Doing.{enough}
 use Rattle.play.specs.Lines.{text_of, texts_of}
 use Rattle.play.specs.Endings.{end_number, packed}
 use Rattle.play.specs.Plays.{Played, last_line, lines_of}
-use Rattle.play.specs.Runs.{Instruction, Run, call, followed, instruction_of, make, refused_line, run_of, unmade}
+use Rattle.play.specs.Runs.{Run, followed, instruction_of, refused_line, run_of, unmade}
 use Rattle.play.specs.declared.ending.Ending.{Ending}
+use Rattle.play.specs.declared.instruction.Instruction.{Instruction}
+use Rattle.play.specs.declared.instruction.Instruction.TheVariants.{Make, Call as CallOf}
 use Rattle.play.specs.declared.line.Line.{Line}
 use Rattle.play.specs.declared.line.Line.TheVariants.{Row as RowLine, Refused, Total, Fault as FaultLine}
 
@@ -63,8 +65,8 @@ refused_few k None = omega arith
 refused_few k (Some e) = omega arith
 
 record_few : (r : Run) (i : Instruction) → length (followed r i).lines ≤ length r.lines + 512
-record_few r (make unit prior tag) = simp length-append (omega (arith, refused_few (r.count + 1) (cond (may_make unit prior tag) None (Some BadField))))
-record_few r (call c) =
+record_few r (Make m) = simp length-append (omega (arith, refused_few (r.count + 1) (cond (may_make m.unit m.prior_close m.tag) None (Some BadField))))
+record_few r (CallOf c) =
     let o = refusal_of r.day c 512 r.ledger.places in
     let few = call_few (rows_of r.day c) (r.count + 1) o (enough (is_closed r.day.figures.phase) (field_refusal r.day c) (rows_of r.day c) 512 r.ledger.places) in
     omega (arith, few, length-append r.lines (map RowLine (rows_if o (rows_of r.day c)) ++ refused_line (r.count + 1) o))

@@ -3,10 +3,10 @@
 
 mod calls;
 pub mod ending;
+mod instruction;
 mod line;
 mod packing;
+mod page;
 pub mod play;
 mod playing;
-mod printed;
-mod printing;
 mod writing;

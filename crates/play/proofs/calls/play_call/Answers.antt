@@ -15,9 +15,9 @@ returns-in-Ok c =
     let reported = c.make_call.new.report in
     let done = c.in-Ok.ensures in
     let rows = rows_front (rows_of s c.args.call) report reported c.in-Ok.n done.2 done.1.0 in
-    let wrote = subst (λ (l : List Row). Wrote (map RowLine l) c.args.out.now c.args.page c.print_rows.new.out c.print_rows.result) rows c.print_rows.ensures in
-    advanced_rows c.args.call c.args.record s report (totals_of c.args.day.now.ledger) c.in-Ok.n (state_of c.make_call.new.day.live) reported (totals_of c.make_call.new.day.ledger) c.args.out.now c.print_rows.new.out c.args.page c.print_rows.result c.requires done wrote
+    let wrote = subst (λ (l : List Row). Wrote (map RowLine l) c.args.page.now c.print_rows.new.self) rows c.print_rows.ensures in
+    advanced_rows c.args.call c.args.record s report (totals_of c.args.day.now.ledger) c.in-Ok.n (state_of c.make_call.new.day.live) reported (totals_of c.make_call.new.day.ledger) c.args.page.now c.print_rows.new.self c.requires done wrote
 
 pub returns-in-Err : goal.returns-in-Err
 returns-in-Err c =
-    advanced_refused c.args.call c.args.record (state_of c.args.day.now.live) c.args.report.now (totals_of c.args.day.now.ledger) c.in-Err.reason (state_of c.make_call.new.day.live) c.make_call.new.report (totals_of c.make_call.new.day.ledger) c.args.out.now c.print.new.out c.args.page c.print.result c.requires c.in-Err.ensures c.print.ensures
+    advanced_refused c.args.call c.args.record (state_of c.args.day.now.live) c.args.report.now (totals_of c.args.day.now.ledger) c.in-Err.reason (state_of c.make_call.new.day.live) c.make_call.new.report (totals_of c.make_call.new.day.ledger) c.args.page.now c.print.new.self c.requires c.in-Err.ensures c.print.ensures

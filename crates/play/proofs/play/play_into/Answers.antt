@@ -1,4 +1,5 @@
-use Rattle.std.proofs.Common.{[], ◌∷◌, ◌++◌, Some, None, Ok, subst}
+use Rattle.std.proofs.Common.{ℕ, List, Some, None, Ok, sym, subst, rules}
+use Rattle.play.specs.Plays.{Played}
 use Rattle.play.specs.Runs.{run_of}
 use Rattle.play.specs.Steps.{Finished}
 use Rattle.play.specs.declared.line.Line.{Line}
@@ -7,15 +8,15 @@ use Rattle.play.proofs.play.play_into.Goals as goal
 
 pub returns-in-Ok : goal.returns-in-Ok
 returns-in-Ok c =
-    let f = c.in-Ok.ensures in
-    let es = f.0 in
-    let was = c.args.out.now in
-    let done = c.finish.ensures was (run_of es).lines f.3 in
-    played c.args.file.now was c.finish.new.out c.finish.result es None f.1
-    (subst (λ (l : Line). Finished was ((run_of es).lines ++ (l ∷ [])) (Ok tt) c.finish.new.out c.finish.result) f.2 done)
+    let f = c.in-Ok.ensures _ c.new-page.ensures in
+    let name = (c.finish.ensures.wrote _ (run_of f.0).lines f.3).lender in
+    let done = subst (λ (l : Line). Finished l (Ok tt) c.play_file.new.page c.finish.new.self c.finish.result) f.2 c.finish.ensures in
+    subst (λ (out : List ℕ). Played c.args.file.now c.args.out.now out c.finish.result) (sym (search rules))
+    (played c.args.file.now _ c.play_file.new.page c.finish.new.self c.finish.result f.0 None f.1 f.3 done)
 
 pub returns-in-Err : goal.returns-in-Err
 returns-in-Err c =
-    let f = c.in-Err.ensures in
-    let was = c.args.out.now in
-    played c.args.file.now was c.finish-in-Err.new.out c.finish-in-Err.result f.0 (Some c.in-Err.fault) f.1 (c.finish-in-Err.ensures was (run_of f.0).lines f.2)
+    let f = c.in-Err.ensures _ c.new-page.ensures in
+    let name = (c.finish-in-Err.ensures.wrote _ (run_of f.0).lines f.2).lender in
+    subst (λ (out : List ℕ). Played c.args.file.now c.args.out.now out c.finish-in-Err.result) (sym (search rules))
+    (played c.args.file.now _ c.play_file.new.page c.finish-in-Err.new.self c.finish-in-Err.result f.0 (Some c.in-Err.fault) f.1 f.2 c.finish-in-Err.ensures)
