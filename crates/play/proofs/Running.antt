@@ -24,10 +24,8 @@ numbers_are n m rows h =
     ∙ ap (λ x. record { shares = (posted n rows).shares; money = (posted n rows).money; places = x }) places
 
 -- the rows that a report holds
-pub rows_front : (rows report reported : List Row) (k : ℕ) → reported ≡ rows ++ drop (length rows) report → k ≡ length rows → take (k - 0) reported ≡ rows
-rows_front rows report reported k e is =
-    let whole : k - 0 ≡ length rows = omega (arith, is) in
-    ap (λ n. take n reported) whole ∙ ap (take (length rows)) e ∙ take_at rows (drop (length rows) report) (length rows) refl
+pub rows_front : (rows report reported : List Row) (k : ℕ) → reported ≡ rows ++ drop (length rows) report → k ≡ length rows → take k reported ≡ rows
+rows_front rows report reported k e is = ap (λ n. take n reported) is ∙ ap (take (length rows)) e ∙ take_at rows (drop (length rows) report) (length rows) refl
 
 -- an accepted call, its rows printed
 pub advanced_rows : (c : Call) (k : ℕ) (s : State) (report : List Row) (n : Numbers) (i : ℕ) (t : State) (reported : List Row) (m : Numbers) (p q : Page) → length report ≡ 512 → Done c s report n (Ok i) t reported m → Wrote (map RowLine (rows_of s c)) p q → Advanced c k s n p t m q

@@ -41,7 +41,7 @@ pub(crate) fn play_call(
     ensures { Advanced call «record» (state_of day.old.live) (totals_of day.old.ledger) page.old (state_of day.new.live) (totals_of day.new.ledger) page.new }
 {
     match make_call(day, call, report) {
-        Ok(n) => page.print_rows(&report[0..n]),
+        Ok(n) => page.print_rows(&report[..n]),
         Err(reason) => page.print(Line::Refused { record, reason }),
     }
 }

@@ -19,7 +19,7 @@ fn end_number(end: Result<(), Refusal>) -> u32
 impl Ending {
     // The bytes written times 32, and the number of what ended the lines early.
     pub(crate) fn packed(self) -> u64
-        requires { packed self < 2 ^ 64 }
+        requires { self.written < 2 ^ 58 }
         ensures { result ≡ packed self }
     {
         self.written as u64 * 32 + u64::from(end_number(self.end))
