@@ -22,6 +22,7 @@ impl Ending {
         requires { self.written < 2 ^ 58 }
         ensures { result ≡ packed self }
     {
+        // `as`, since no `From` makes a u64 of a usize
         self.written as u64 * 32 + u64::from(end_number(self.end))
     }
 }

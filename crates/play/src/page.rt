@@ -6,7 +6,8 @@ use crate::line::Line;
 use book::row::Row;
 use market::refusal::Refusal;
 
-// The caller's bytes, how many of them are written, and whether a line has found no room: then no later line is printed.
+// The caller's bytes, how many of them are written, and whether a line has found no room: then no later line is printed,
+// and what is written still counts.
 #[derive(Drop)]
 pub struct Page<'a> {
     out: &'a mut [u8],

@@ -73,6 +73,7 @@ fn play_rest(
     let mut report = blank_report();
     let mut place = first;
     let mut record: u32 = 1;
+    // a place is known only once the record before it is read, so no range counts the records
     while place < file.len() {
         let found = record_at(file, place)?;
         record += 1;

@@ -11,4 +11,4 @@ returns c file long =
     let reads = subst (λ (x : Fault). FileReads file [] (Some x)) (sym c.too_long-fault.ensures) (too_long long) in
     let name = (c.finish.ensures.wrote _ [] c.new.ensures).lender in
     subst (λ (out : List ℕ). Played file c.args.out.now out c.finish.result) (sym (search rules))
-    (played file _ c.new.result c.finish.new.self c.finish.result [] (Some f) reads c.new.ensures c.finish.ensures)
+    (played _ _ _ _ _ [] (Some f) reads c.new.ensures c.finish.ensures)

@@ -26,7 +26,7 @@ loop-place-preserved c =
           let r = k.goes_on lent es reached in (
             r.0 ++ entry_of x ∷ [],
             subst (λ (n : ℕ). Reached file (r.0 ++ entry_of x ∷ []) (at + n) (c.loop-place.record + 1) lent (state_of c.play_call.new.day.live) (totals_of c.play_call.new.day.ledger) c.play_call.new.page) size
-                (reached_more file r.0 at c.loop-place.record lent (state_of c.loop-place.day.live) (totals_of c.loop-place.day.ledger) c.loop-place.page x c.in-Call.call (state_of c.play_call.new.day.live) (totals_of c.play_call.new.day.ledger) c.play_call.new.page r.1 stands is c.play_call.ensures),
+                (reached_more file r.0 at _ lent _ _ _ x _ _ _ _ r.1 stands is c.play_call.ensures),
           );
       report = search rules;
       records = omega (arith, some, size, k.records);
@@ -39,11 +39,11 @@ returns-in_err-found c lent es reached =
     let p = err_from_is_err_and c.from_residual.result c.from_residual.ensures.1 in
     let q = c.in_err-found.ensures in
     let r = c.loop-place.invariant.goes_on lent es reached in
-    rw (p.1, p.2) (reached_fault c.args.file.now r.0 c.loop-place.place c.loop-place.record lent (state_of c.loop-place.day.live) (totals_of c.loop-place.day.ledger) c.loop-place.page c.in_err-found.field-0.0 r.1 c.loop-place-test.true q.0 q.1 q.2)
+    rw (p.1, p.2) (reached_fault c.args.file.now r.0 _ _ lent _ _ _ c.in_err-found.field-0.0 r.1 c.loop-place-test.true q.0 q.1 q.2)
 
 pub returns : goal.returns
 returns c lent es reached =
     let shares : to_z w64 (of_z w64 c.shares.result) ≡ c.loop-place.day.ledger.shares = search rules in
     let money : to_z w64 (of_z w64 c.money.result) ≡ c.loop-place.day.ledger.money = search rules in
     let r = c.loop-place.invariant.goes_on lent es reached in
-    reached_end c.args.file.now r.0 c.loop-place.place c.loop-place.record lent (state_of c.loop-place.day.live) (totals_of c.loop-place.day.ledger) c.loop-place.page _ _ r.1 c.loop-place-test.false shares money
+    reached_end c.args.file.now r.0 _ _ lent _ _ _ _ _ r.1 c.loop-place-test.false shares money

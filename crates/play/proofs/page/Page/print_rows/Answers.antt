@@ -11,7 +11,7 @@ loop-row-init c = wrote_none c.args.self.now
 
 pub loop-row-preserved : goal.loop-row-preserved
 loop-row-preserved c =
-    wrote_row c.args.rows.now c.loop-row.row-index c.args.self.now c.loop-row.self c.print.new.self c.loop-row-test.true c.loop-row.invariant c.print.ensures
+    wrote_row _ _ _ _ _ c.loop-row-test.true c.loop-row.invariant c.print.ensures
 
 pub returns : goal.returns
 returns c =
