@@ -1,6 +1,8 @@
 // Plays.
 use book::book::Book;
-use play::play::play_into;
+use market::refusal::Refusal;
+use play::ending::Ending;
+use play::play::{odd_lot_play, play, play_into};
 use std::alloc::Global;
 use std::process::Abort;
 use std::test::Fail;
@@ -15,13 +17,16 @@ const FILE: [u8; 64] = [
 
 const LINES: &[u8] = b"1 1 9 200000 2\n2 1 9 200000 2\n3 1 5 199900 2\nR 9 9\nT -23 4599500\n";
 
-// The file played into the first bytes of 70, and what those hold then.
-fn played(rt: &impl Abort, heap: Global, room: usize) -> Result<(u64, Vec<u8>), Fail> {
+// The file played into the first bytes of 70, by each of the three entries: how it ends, the number for C, and what the
+// bytes hold then.
+fn played(rt: &impl Abort, heap: Global, room: usize) -> Result<(Ending, u64, Vec<u8>), Fail> {
     let mut out = vec![in heap; b'.'; 70]?;
     let bytes = out.as_mut_slice();
     assert!(rt; room <= bytes.len());
-    let answer = play_into(Book::reserve(heap)?, &FILE, &mut bytes[0..room]);
-    Ok((answer, out))
+    let ending = play_into(Book::reserve(heap)?, &FILE, &mut bytes[0..room]);
+    assert_eq!(rt; play(heap, &FILE, &mut bytes[0..room])?, ending);
+    let answer = odd_lot_play(heap, &FILE, &mut bytes[0..room]);
+    Ok((ending, answer, out))
 }
 
 // Outputs of these lengths: the bytes written, which end a line, and the number in the answer.
@@ -41,7 +46,9 @@ fn outputs(rt: HostRuntime) -> Result<(), Fail> {
         (70, 65, 0),
     ];
     for (room, written, number) in table {
-        let (answer, out) = played(&rt, rt.alloc(), room)?;
+        let (ending, answer, out) = played(&rt, rt.alloc(), room)?;
+        assert_eq!(rt; ending.written, written);
+        assert_eq!(rt; ending.end.is_ok(), number == 0);
         assert_eq!(rt; answer / 32, written as u64);
         assert_eq!(rt; answer % 32, number);
         let bytes = out.as_slice();
@@ -62,10 +69,24 @@ fn refused_start(rt: HostRuntime) -> Result<(), Fail> {
     ];
     let mut out = [0; 24];
     let whole = play_into(Book::reserve(rt.alloc())?, &file[0..16], &mut out);
-    assert_eq!(rt; whole, 18 * 32);
+    assert_eq!(rt;
+        whole,
+        Ending {
+            written: 18,
+            end: Ok(())
+        }
+    );
+    assert_eq!(rt; odd_lot_play(rt.alloc(), &file[0..16], &mut out), 18 * 32);
     assert!(rt; out.starts_with(b"R 1 4\nR 2 1\nT 0 0\n"));
     let cut = play_into(Book::reserve(rt.alloc())?, &file, &mut out);
-    assert_eq!(rt; cut, 20 * 32 + 16);
+    assert_eq!(rt;
+        cut,
+        Ending {
+            written: 20,
+            end: Err(Refusal::FileCut)
+        }
+    );
+    assert_eq!(rt; odd_lot_play(rt.alloc(), &file, &mut out), 20 * 32 + 16);
     assert!(rt; out.starts_with(b"R 1 4\nR 2 1\nX 16 16\n"));
     Ok(())
 }

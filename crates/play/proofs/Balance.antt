@@ -15,7 +15,9 @@ use Rattle.rules.specs.Steps.{rows_if}
 use Rattle.day.specs.Days.{may_make}
 use Rattle.dayfile.specs.declared.entry.Entry.{Entry}
 use Rattle.play.specs.Plays.{AddsUp, fills_in, lines_of, rows_in}
-use Rattle.play.specs.Runs.{Instruction, Run, call, followed, instruction_of, make, money_in, posted, refused_line, run_of, shares_in, unmade}
+use Rattle.play.specs.Runs.{Run, followed, instruction_of, money_in, posted, refused_line, run_of, shares_in, unmade}
+use Rattle.play.specs.declared.instruction.Instruction.{Instruction}
+use Rattle.play.specs.declared.instruction.Instruction.TheVariants.{Make, Call as CallOf}
 use Rattle.play.specs.declared.line.Line.{Line}
 use Rattle.play.specs.declared.line.Line.TheVariants.{Row as RowLine, Refused, Total, Fault as FaultLine}
 
@@ -82,11 +84,11 @@ more_fills n xs ys b =
 
 -- an instruction keeps the balance
 kept : (r : Run) (i : Instruction) → Balanced r.ledger r.lines → Balanced (followed r i).ledger (followed r i).lines
-kept r (make unit prior tag) b =
-    let o = cond (may_make unit prior tag) None (Some BadField) in
+kept r (Make m) b =
+    let o = cond (may_make m.unit m.prior_close m.tag) None (Some BadField) in
     same_fills r.ledger r.lines (r.lines ++ refused_line (r.count + 1) o)
     (fills_append r.lines (refused_line (r.count + 1) o) ∙ ap (λ l. fills_in r.lines ++ fills_of l) (no_rows (r.count + 1) o) ∙ append-nil (fills_in r.lines)) b
-kept r (call c) b =
+kept r (CallOf c) b =
     let o = refusal_of r.day c 512 r.ledger.places in
     let rows = rows_if o (rows_of r.day c) in
     let ls = map RowLine rows ++ refused_line (r.count + 1) o in

@@ -14,12 +14,12 @@ use Rattle.play.specs.Steps.{Done, no_rows}
 
 -- a call that is not refused has a place for each row
 not_full : (full : Bool) (o : Option Refusal) → cond full (Some ReportFull) o ≡ None → full ≡ false
-not_full true o h = let z : ◌≡◌ {A = ℕ} 0 1 = cc in absurd (omega arith)
+not_full true o h = cc
 not_full false o h = refl
 
-enough : (closed : Bool) (o : Option Refusal) (rows : List Row) (room places : ℕ) → cond closed (Some DayClosed) (or_else o (room_refusal rows room places)) ≡ None → length rows ≤ room
-enough true o rows room places h = let z : ◌≡◌ {A = ℕ} 0 1 = cc in absurd (omega arith)
-enough false (Some e) rows room places h = let z : ◌≡◌ {A = ℕ} 0 1 = cc in absurd (omega arith)
+pub enough : (closed : Bool) (o : Option Refusal) (rows : List Row) (room places : ℕ) → cond closed (Some DayClosed) (or_else o (room_refusal rows room places)) ≡ None → length rows ≤ room
+enough true o rows room places h = cc
+enough false (Some e) rows room places h = cc
 enough false None rows room places h = ltb-false room (length rows) (not_full (ltb room (length rows)) (cond (ltb places (length (fills_of rows))) (Some LedgerFull) None) h)
 
 -- a call with rows

@@ -1,7 +1,7 @@
-pub mod Signs
 pub mod Paged
 pub mod Doing
 pub mod Running
 pub mod Reaching
 pub mod Balance
+pub mod Bounded
 pub mod Finishing

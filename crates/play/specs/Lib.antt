@@ -1,6 +1,6 @@
 pub mod Lines
-pub mod Texts
 pub mod Pages
+pub mod Endings
 pub mod Runs
 pub mod Plays
 pub mod Steps

@@ -1,8 +1,9 @@
 -- The output: the leading whole lines that fit, then the bytes that stood there before.
 use Rattle.std.specs.Prelude.{◌≡◌, ℕ, ◌+◌, ◌<◌, ◌≤◌, Bool, true, false, List, [], ◌∷◌, ◌++◌, length, drop}
+use Rattle.std.specs.Borrow.{MutBor}
 use Rattle.play.specs.Lines.{text_of, texts_of}
 use Rattle.play.specs.declared.line.Line.{Line}
-use Rattle.play.specs.declared.printed.Printed.{Printed}
+use Rattle.play.specs.declared.page.Page.{Page}
 
 -- the first line that is not shown finds no room behind those that are
 abbrev pub StopsAt : ℕ → List Line → List Line → Type 0
@@ -20,14 +21,15 @@ pub record Shown (was : List ℕ) (lines : List Line) (out : List ℕ) (shown cu
   pub stops : StopsAt (length was) shown cut
   pub bytes : out ≡ texts_of shown ++ drop (length (texts_of shown)) was
 
--- the same, with how far the output is written
-pub record Page (was : List ℕ) (lines : List Line) (out : List ℕ) (p : Printed) : Type 0 where
+-- the same on a page, which holds the bytes that were lent, with how far they are written
+pub record Printed (lent : MutBor (List ℕ)) (lines : List Line) (p : Page) : Type 0 where
+  pub lender : p.out.ghost_name ≡ lent.ghost_name
   pub shown : List Line
   pub cut : List Line
-  pub shows : Shown was lines out shown cut
+  pub shows : Shown lent.now lines p.out.now shown cut
   pub used : p.used ≡ length (texts_of shown)
   pub full : p.full ≡ is_cut cut
 
 -- lines printed behind others, whatever those are
-abbrev pub Wrote : List Line → List ℕ → Printed → List ℕ → Printed → Type 0
-Wrote lines before p after q = (was : List ℕ) (earlier : List Line) → Page was earlier before p → Page was (earlier ++ lines) after q
+abbrev pub Wrote : List Line → Page → Page → Type 0
+Wrote lines p q = (lent : MutBor (List ℕ)) (earlier : List Line) → Printed lent earlier p → Printed lent (earlier ++ lines) q

@@ -16,24 +16,22 @@ use Rattle.rules.specs.declared.call.Call.TheVariants as a
 use Rattle.day.specs.Days.{fresh_figures, may_make, refused_figures}
 use Rattle.dayfile.specs.declared.entry.Entry.{Entry}
 use Rattle.dayfile.specs.declared.entry.Entry.TheVariants.{Start, Clock, Order, Cancel, Quote, Opening, Trade, Close}
+use Rattle.play.specs.declared.instruction.Instruction.{Instruction}
+use Rattle.play.specs.declared.instruction.Instruction.TheVariants.{Make, Call as CallOf}
 use Rattle.play.specs.declared.line.Line.{Line}
 use Rattle.play.specs.declared.line.Line.TheVariants.{Row as RowLine, Refused}
 
 -- what a record asks for: a start makes the day, and every other record is a call
-pub data Instruction : Type 0 where
-  make : ℕ → ℕ → ℕ → Instruction
-  call : Call → Instruction
-
 abbrev pub instruction_of : Entry → Instruction
-instruction_of (Start unit prior tag) = make unit prior tag
-instruction_of (Clock time) = call (a.Clock time)
+instruction_of (Start unit prior tag) = Make (record { unit = unit; prior_close = prior; tag = tag })
+instruction_of (Clock time) = CallOf (a.Clock time)
 instruction_of (Order side kind shares limit stop) =
-    call (a.Order (record { side = side; kind = kind; shares = shares; limit = limit; stop = stop }))
-instruction_of (Cancel number) = call (a.Cancel number)
-instruction_of (Quote bid offer) = call (a.Quote (record { bid = bid; offer = offer }))
-instruction_of (Opening price volume) = call (a.Opening (record { price = price; volume = volume }))
-instruction_of (Trade price volume) = call (a.Trade (record { price = price; volume = volume }))
-instruction_of Close = call a.Close
+    CallOf (a.Order (record { side = side; kind = kind; shares = shares; limit = limit; stop = stop }))
+instruction_of (Cancel number) = CallOf (a.Cancel number)
+instruction_of (Quote bid offer) = CallOf (a.Quote (record { bid = bid; offer = offer }))
+instruction_of (Opening price volume) = CallOf (a.Opening (record { price = price; volume = volume }))
+instruction_of (Trade price volume) = CallOf (a.Trade (record { price = price; volume = volume }))
+instruction_of Close = CallOf a.Close
 
 -- a play so far: the day's state, the ledger's numbers, the lines printed, and how many records there were
 pub record Run : Type 0 where
@@ -98,8 +96,8 @@ abbrev pub called : Run → Call → Run
 called r c = answered r c (refusal_of r.day c 512 r.ledger.places)
 
 abbrev pub followed : Run → Instruction → Run
-followed r (make unit prior tag) = making r unit prior tag
-followed r (call c) = called r c
+followed r (Make m) = making r m.unit m.prior_close m.tag
+followed r (CallOf c) = called r c
 
 -- the play of some records
 abbrev pub run_of : List Entry → Run

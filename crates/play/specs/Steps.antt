@@ -1,6 +1,6 @@
 -- A play under way: the definition's run, and the day, the ledger and the output that the player holds.
-use Rattle.std.specs.Prelude.{◌≡◌, ℕ, ◌+◌, ◌*◌, ◌≤◌, List, [], ◌∷◌, ◌++◌, length, drop, Some, None, Ok, Err, Result}
-use Rattle.market.specs.Terms.{refusal_number}
+use Rattle.std.specs.Prelude.{◌≡◌, ℕ, ◌+◌, ◌≤◌, List, [], ◌∷◌, ◌++◌, length, drop, Some, None, Ok, Err, Result, if◌then◌else◌}
+use Rattle.std.specs.Borrow.{MutBor}
 use Rattle.market.specs.declared.refusal.Refusal.{Refusal}
 use Rattle.market.specs.declared.refusal.Refusal.TheVariants.{OutputShort}
 use Rattle.ledger.specs.Posting.{Numbers, numbers}
@@ -10,15 +10,16 @@ use Rattle.rules.specs.Machine.{after_call, fills_of, refusal_of, rows_of}
 use Rattle.rules.specs.States.{State}
 use Rattle.rules.specs.Steps.{PostedOnce}
 use Rattle.rules.specs.declared.call.Call.{Call}
-use Rattle.play.specs.Lines.{texts_of}
-use Rattle.play.specs.Pages.{Page, Shown}
+use Rattle.play.specs.Pages.{Printed, Wrote}
 use Rattle.dayfile.specs.Files.{Begins, FileReads}
 use Rattle.dayfile.specs.declared.entry.Entry.{Entry}
 use Rattle.dayfile.specs.declared.fault.Fault.{Fault}
 use Rattle.play.specs.Plays.{last_line}
-use Rattle.play.specs.Runs.{Run, called, run_of}
+use Rattle.play.specs.Runs.{Run, called, followed, run_of, unmade}
+use Rattle.play.specs.declared.ending.Ending.{Ending}
+use Rattle.play.specs.declared.instruction.Instruction.{Instruction}
 use Rattle.play.specs.declared.line.Line.{Line}
-use Rattle.play.specs.declared.printed.Printed.{Printed}
+use Rattle.play.specs.declared.page.Page.{Page}
 
 -- the three numbers of a totals ledger
 abbrev pub totals_of : Totals → Numbers
@@ -41,44 +42,46 @@ Done c s report n (Err e) t reported m =
     (refusal_of s c (length report) n.places ≡ Some e) × (t ≡ s) × (reported ≡ report) × PostedOnce n [] m
 
 -- the player stands where the run does
-pub record At (r : Run) (was : List ℕ) (s : State) (n : Numbers) (out : List ℕ) (p : Printed) : Type 0 where
+pub record At (r : Run) (lent : MutBor (List ℕ)) (s : State) (n : Numbers) (p : Page) : Type 0 where
   pub day : s ≡ r.day
   pub ledger : n ≡ r.ledger
-  pub page : Page was r.lines out p
+  pub page : Printed lent r.lines p
 
 -- a call takes the player to where the run is after it
-abbrev pub Advanced : Call → ℕ → State → Numbers → List ℕ → Printed → State → Numbers → List ℕ → Printed → Type 0
-Advanced c k s n out p t m after q = (r : Run) (was : List ℕ) → k ≡ r.count + 1 → At r was s n out p → At (called r c) was t m after q
+abbrev pub Advanced : Call → ℕ → State → Numbers → Page → State → Numbers → Page → Type 0
+Advanced c k s n p t m q = (r : Run) (lent : MutBor (List ℕ)) → k ≡ r.count + 1 → At r lent s n p → At (called r c) lent t m q
+
+-- the start takes the player, whose page is empty, to where the run is after it
+abbrev pub Opened : Instruction → Page → State → Numbers → Page → Type 0
+Opened i p s n q = (lent : MutBor (List ℕ)) → Printed lent [] p → At (followed unmade i) lent s n q
 
 -- the player has played the first records of a file, up to a place after them
-pub record Reached (file : List ℕ) (es : List Entry) (place k : ℕ) (was : List ℕ) (s : State) (n : Numbers) (out : List ℕ) (p : Printed) : Type 0 where
+pub record Reached (file : List ℕ) (es : List Entry) (place k : ℕ) (lent : MutBor (List ℕ)) (s : State) (n : Numbers) (p : Page) : Type 0 where
   pub begins : Begins file es place
-  pub at : At (run_of es) was s n out p
+  pub at : At (run_of es) lent s n p
   pub count : k ≡ (run_of es).count
 
 -- the player goes on from one place to another
-abbrev pub GoesOn : List ℕ → ℕ → ℕ → State → Numbers → List ℕ → Printed → ℕ → ℕ → State → Numbers → List ℕ → Printed → Type 0
-GoesOn file place k s n out p place' k' t m after q =
-    (was : List ℕ) (es : List Entry) → Reached file es place k was s n out p → (fs : List Entry) × Reached file fs place' k' was t m after q
+abbrev pub GoesOn : List ℕ → ℕ → ℕ → State → Numbers → Page → ℕ → ℕ → State → Numbers → Page → Type 0
+GoesOn file place k s n p place' k' t m q =
+    (lent : MutBor (List ℕ)) (es : List Entry) → Reached file es place k lent s n p → (fs : List Entry) × Reached file fs place' k' lent t m q
 
 -- a file is played, but for its last line
-abbrev pub FilePlayed : List ℕ → List ℕ → Result Line Fault → List ℕ → Printed → Type 0
-FilePlayed file was (Ok line) out p = (es : List Entry) × FileReads file es None × (line ≡ last_line (run_of es) None) × Page was (run_of es).lines out p
-FilePlayed file was (Err f) out p = (es : List Entry) × FileReads file es (Some f) × Page was (run_of es).lines out p
+abbrev pub FilePlayed : List ℕ → MutBor (List ℕ) → Result Line Fault → Page → Type 0
+FilePlayed file lent (Ok line) p = (es : List Entry) × FileReads file es None × (line ≡ last_line (run_of es) None) × Printed lent (run_of es).lines p
+FilePlayed file lent (Err f) p = (es : List Entry) × FileReads file es (Some f) × Printed lent (run_of es).lines p
+
+-- the same on a page that was empty
+abbrev pub PlayedOn : List ℕ → Page → Result Line Fault → Page → Type 0
+PlayedOn file p r q = (lent : MutBor (List ℕ)) → Printed lent [] p → FilePlayed file lent r q
 
 -- the records after the start are played, but for the last line
-abbrev pub RestPlayed : List ℕ → ℕ → State → Numbers → List ℕ → Printed → Result Line Fault → List ℕ → Printed → Type 0
-RestPlayed file place s n out p r after q =
-    (was : List ℕ) (es : List Entry) → Reached file es place 1 was s n out p → FilePlayed file was r after q
+abbrev pub RestPlayed : List ℕ → ℕ → State → Numbers → Page → Result Line Fault → Page → Type 0
+RestPlayed file place s n p r q =
+    (lent : MutBor (List ℕ)) (es : List Entry) → Reached file es place 1 lent s n p → FilePlayed file lent r q
 
--- n: 18 where a line is cut off, else another
-abbrev pub cut_number : List Line → ℕ → ℕ
-cut_number [] n = n
-cut_number (l ∷ ls) n = refusal_number OutputShort
-
--- lines are printed to the last, and an answer is given that ends in 18 or another number
-pub record Finished (was : List ℕ) (lines : List Line) (n : ℕ) (out : List ℕ) (answer : ℕ) : Type 0 where
-  pub shown : List Line
-  pub cut : List Line
-  pub shows : Shown was lines out shown cut
-  pub answers : answer ≡ length (texts_of shown) * 32 + cut_number cut n
+-- the last line is printed behind the others, and the play ends with 18 where a line is cut off, else as it would without that
+pub record Finished (last : Line) (end : Result (Unit {0}) Refusal) (p q : Page) (ending : Ending) : Type 0 where
+  pub wrote : Wrote (last ∷ []) p q
+  pub written : ending.written ≡ q.used
+  pub ends : ending.end ≡ (if q.full then Err OutputShort else end)

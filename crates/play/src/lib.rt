@@ -2,10 +2,11 @@
 #![tactic(auto)]
 
 mod calls;
+pub mod ending;
+mod instruction;
 mod line;
+mod packing;
+mod page;
 pub mod play;
 mod playing;
-mod printed;
-mod printing;
-mod text;
 mod writing;

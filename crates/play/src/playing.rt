@@ -1,18 +1,17 @@
 // A file played record by record.
-ghost use Rattle.std.specs.Prelude.{◌≡◌, ◌+◌, ◌*◌, ◌<◌, ◌≤◌, true, length};
-ghost use Rattle.dayfile.specs.Entries.{is_start};
+ghost use Rattle.std.specs.Prelude.{◌≡◌, ◌≤◌, length};
 ghost use Rattle.day.specs.Days.{state_of};
-ghost use Rattle.play.specs.Runs.{followed, instruction_of, make, unmade};
-ghost use Rattle.play.specs.Steps.{At, FilePlayed, RestPlayed, totals_of};
+ghost use Rattle.play.specs.Runs.{unmade};
+ghost use Rattle.play.specs.Steps.{Opened, PlayedOn, RestPlayed, totals_of};
+ghost use Rattle.play.specs.declared.instruction.Instruction.TheVariants.{Make};
 
-use crate::calls::{call_in, play_call};
+use crate::calls::play_call;
+use crate::instruction::{Instruction, Making};
 use crate::line::Line;
-use crate::printed::{NOTHING, Printed};
-use crate::printing::print;
+use crate::page::Page;
 use book::book::Book;
 use book::row::Row;
 use day::live::Day;
-use dayfile::entry::Entry;
 use dayfile::fault::Fault;
 use dayfile::reading::record_at;
 use ledger::posting::Ledger;
@@ -42,36 +41,21 @@ fn zero_totals() -> Totals
     Totals::new(&start)
 }
 
-// What a start asks for: unit, prior close and tag.
-fn making_in(entry: Entry) -> (u32, u32, u32)
-    requires { is_start entry ≡ true }
-    ensures { instruction_of entry ≡ make result.0 result.1 result.2 }
-{
-    match entry {
-        Entry::Start {
-            unit,
-            prior_close,
-            tag,
-        } => (unit, prior_close, tag),
-        _ => unreachable(),
-    }
-}
-
 // Makes the day that a start asks for. Where the making is refused, the day is closed, and that is printed.
-fn open_day(book: Book, entry: Entry, out: &mut [u8]) -> (Day<Totals>, Printed)
-    requires { is_start entry ≡ true }
-    ensures at { At (followed unmade (instruction_of entry)) out.old (state_of result.0.live) (totals_of result.0.ledger) out.new result.1 }
-    ensures bound { result.1.used ≤ 64 }
+fn open_day(book: Book, making: Making, page: &mut Page<'_>) -> Day<Totals>
+    ensures { Opened (Make making) page.old (state_of result.live) (totals_of result.ledger) page.new }
 {
-    let (unit, prior_close, tag) = making_in(entry);
-    let (day, made) = Day::new(book, zero_totals(), unit, prior_close, tag);
-    match made {
-        Ok(()) => (day, NOTHING),
-        Err(reason) => (
-            day,
-            print(out, NOTHING, Line::Refused { record: 1, reason }),
-        ),
+    let (day, made) = Day::new(
+        book,
+        zero_totals(),
+        making.unit,
+        making.prior_close,
+        making.tag,
+    );
+    if let Err(reason) = made {
+        page.print(Line::Refused { record: 1, reason });
     }
+    day
 }
 
 // Plays the records after the start, and answers the last line.
@@ -79,24 +63,25 @@ fn play_rest(
     file: &[u8],
     first: usize,
     day: &mut Day<Totals>,
-    out: &mut [u8],
-    page: &mut Printed,
+    page: &mut Page<'_>,
 ) -> Result<Line, Fault>
     requires inside { first ≤ length file.now }
     requires short { length file.now ≤ 65536 }
     requires past { 4 ≤ first }
-    requires little { page.old.used ≤ 32768 }
-    ensures played { RestPlayed file.now first (state_of day.old.live) (totals_of day.old.ledger) out.old page.old result out.new page.new }
-    ensures bound { page.new.used ≤ 536870912 }
+    ensures { RestPlayed file.now first (state_of day.old.live) (totals_of day.old.ledger) page.old result page.new }
 {
     let mut report = blank_report();
     let mut place = first;
     let mut record: u32 = 1;
+    // a place is known only once the record before it is read, so no range counts the records
     while place < file.len() {
         let found = record_at(file, place)?;
         record += 1;
-        let call = call_in(found.record.entry());
-        *page = play_call(day, call, record, &mut report, out, *page);
+        let Instruction::Call(call) = Instruction::from(found.record.entry()) else {
+            // only the first record of a file is a start
+            unreachable()
+        };
+        play_call(day, call, record, &mut report, page);
         place += found.record.part().len();
     }
     Ok(Line::Total {
@@ -105,22 +90,18 @@ fn play_rest(
     })
 }
 
-// Plays a file, and answers the last line, or the fault that makes it.
-pub(crate) fn play_file(
-    book: Book,
-    file: &[u8],
-    out: &mut [u8],
-    page: &mut Printed,
-) -> Result<Line, Fault>
-    ensures played { FilePlayed file.now out.old result out.new page.new }
-    ensures bound { page.new.used ≤ 536870912 }
+// Plays a file on an empty page, and answers the last line, or the fault that makes it.
+pub(crate) fn play_file(book: Book, file: &[u8], page: &mut Page<'_>) -> Result<Line, Fault>
+    ensures { PlayedOn file.now page.old result page.new }
 {
-    *page = NOTHING;
     if file.len() > 65_536 {
         return Err(Fault::too_long());
     }
     let start = record_at(file, 0)?;
-    let (mut day, opened) = open_day(book, start.record.entry(), out);
-    *page = opened;
-    play_rest(file, start.record.part().len(), &mut day, out, page)
+    let Instruction::Make(making) = Instruction::from(start.record.entry()) else {
+        // the first record of a file is a start
+        unreachable()
+    };
+    let mut day = open_day(book, making, page);
+    play_rest(file, start.record.part().len(), &mut day, page)
 }

@@ -1,13 +1,16 @@
-use Rattle.std.proofs.Common.{◌≡◌, ℕ, ◌/◌, List, length, take, drop, sym, ap, ◌∙◌, subst, rules}
+use Rattle.std.proofs.Common.{◌≡◌, ℕ, false, true, List, length, take, drop, sym, ap, ◌∙◌, subst, rules}
 use Rattle.std.proofs.lemmas.List.{take_at}
+use Rattle.play.specs.Plays.{Played}
 use Rattle.odd_lot_day.specs.Wholes.{WholeText}
 use Rattle.odd_lot_day.proofs.Whole.{whole_text}
 use Rattle.odd_lot_day.proofs.lines_of.Goals as goal
 
-pub returns-then-number-ne18 : goal.returns-then-number-ne18
-returns-then-number-ne18 c =
-    let out = c.odd_lot_play-answer.new.out in
+pub returns-then-ne : goal.returns-then-ne
+returns-then-ne c =
+    let out = c.play.new.out in
+    let e = c.in_ok-ending.ending in
     let long : length out ≡ c.in_ok-out.out.len = search rules in
-    let kept = c.truncate.ensures.items ∙ ap (take (c.odd_lot_play-answer.result / 32)) (take_at out (drop (length out) c.in_ok-out.out.items) c.in_ok-out.out.len long) in
+    let kept = c.truncate.ensures.items ∙ ap (take e.written) (take_at out (drop (length out) c.in_ok-out.out.items) c.in_ok-out.out.len long) in
+    let p : Played c.args.file.now c.as_mut_slice.result.now out e = search rules in
     subst (λ (l : List ℕ). WholeText c.args.file.now l) (sym kept)
-    (whole_text c.args.file.now c.as_mut_slice.result.now out c.odd_lot_play-answer.result c.odd_lot_play-answer.ensures c.if-number-eq31.false c.if-number-ne18.true)
+    (whole_text c.args.file.now c.as_mut_slice.result.now out e p (λ is. let z : true ≡ false = sym c.if-ne.true ∙ rw is at c.ne.ensures in cc))

@@ -1,11 +1,9 @@
-use Rattle.std.proofs.Common.{refl, inl, inr, arith}
+use Rattle.std.proofs.Common.{inl}
+use Rattle.play.proofs.Bounded.{written_few}
 use Rattle.play.proofs.play.odd_lot_play.Goals as goal
 
-pub returns-then-file-gt65536 : goal.returns-then-file-gt65536
-returns-then-file-gt65536 c = inl (c.play_too_long.ensures c.args.file.now (omega arith))
+pub packed-requires : goal.packed-requires
+packed-requires c = written_few _ _ _ _ c.in-Ok.ensures.ok
 
 pub returns-in-Ok : goal.returns-in-Ok
-returns-in-Ok c = inl c.play_into.ensures
-
-pub returns-in-Err : goal.returns-in-Err
-returns-in-Err c = inr (omega arith, refl, refl)
+returns-in-Ok c = inl (c.in-Ok.ending, c.in-Ok.ensures.ok, c.packed.ensures)

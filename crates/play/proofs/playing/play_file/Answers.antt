@@ -1,48 +1,30 @@
-use Rattle.std.proofs.Common.{◌≡◌, true, [], ◌∷◌, length, sym, ap, subst, arith}
+use Rattle.std.proofs.Common.{◌≡◌, [], ◌∷◌, length, sym, ap, ◌∙◌, subst, arith}
 use Rattle.std.proofs.lemmas.Result.{err_from_is_err_and}
 use Rattle.dayfile.specs.Files.{too_long}
 use Rattle.dayfile.specs.Records.{entry_of, part_of}
-use Rattle.dayfile.specs.declared.entry.Entry.{Entry}
-use Rattle.dayfile.proofs.Filed.{part_inside, part_some, reads_first}
+use Rattle.dayfile.proofs.Filed.{reads_first}
 use Rattle.day.specs.Days.{state_of}
 use Rattle.play.specs.Runs.{followed, instruction_of, unmade}
 use Rattle.play.specs.Steps.{At, totals_of}
-use Rattle.play.proofs.Paged.{page_none}
+use Rattle.play.specs.declared.instruction.Instruction.{Instruction}
+use Rattle.play.specs.declared.instruction.Instruction.TheVariants.{Make}
 use Rattle.play.proofs.Reaching.{reached_first}
 use Rattle.play.proofs.playing.play_file.Goals as goal
 
 pub returns-then-file-gt65536 : goal.returns-then-file-gt65536
-returns-then-file-gt65536 c = record { played = ([], rw c.too_long.ensures (too_long (omega arith)), page_none c.args.out.now); bound = omega arith }
+returns-then-file-gt65536 c lent pg = ([], rw c.too_long.ensures (too_long (omega arith)), pg)
 
 pub returns-in_err-start : goal.returns-in_err-start
-returns-in_err-start c =
+returns-in_err-start c lent pg =
     let p = err_from_is_err_and c.from_residual.result c.from_residual.ensures.1 in
     let q = c.in_err-start.ensures in
-    record {
-      played = rw (p.1, p.2) ([], reads_first c.args.file.now c.in_err-start.field-0.0 (omega arith) q.0 q.1 q.2, page_none c.args.out.now);
-      bound = omega arith;
-    }
-
-pub play_rest-requires : goal.play_rest-requires
-play_rest-requires c =
-    let file = c.args.file.now in
-    let x = c.in_ok-start.start.record in
-    let stands = c.in_ok-start.ensures.0 in
-    let size : length (part_of x) ≡ length c.part.result.now = ap length (sym c.part.ensures) in
-    record {
-      inside = omega (arith, size, part_inside true file 0 x (omega arith) stands);
-      short = omega arith;
-      past = omega (arith, size, part_some true file x stands);
-      little = omega (arith, c.open_day-day.ensures.bound);
-    }
+    rw (p.1, p.2) ([], reads_first c.args.file.now c.in_err-start.field-0.0 (omega arith) q.0 q.1 q.2, pg)
 
 pub returns : goal.returns
-returns c =
+returns c lent pg =
     let x = c.in_ok-start.start.record in
     let stands = c.in_ok-start.ensures.0 in
     let size : length c.part.result.now ≡ length (part_of x) = ap length c.part.ensures in
-    let at = subst (λ (e : Entry). At (followed unmade (instruction_of e)) c.args.out.now (state_of c.open_day-day.result.0.live) (totals_of c.open_day-day.result.0.ledger) c.open_day-day.new.out c.open_day-day.result.1) c.entry.ensures c.open_day-day.ensures.at in
-    record {
-      played = c.play_rest.ensures.played c.args.out.now (entry_of x ∷ []) (reached_first c.args.file.now c.args.out.now _ _ _ _ x _ (omega arith) stands size at);
-      bound = c.play_rest.ensures.bound;
-    }
+    let is : instruction_of (entry_of x) ≡ Make c.in-Make.making = sym (c.in-Make.ensures ∙ ap instruction_of c.entry.ensures) in
+    let at = subst (λ (i : Instruction). At (followed unmade i) lent (state_of c.open_day-day.result.live) (totals_of c.open_day-day.result.ledger) c.open_day-day.new.page) (sym is) (c.open_day-day.ensures lent pg) in
+    c.play_rest.ensures lent (entry_of x ∷ []) (reached_first c.args.file.now lent _ _ _ x _ (omega arith) stands size at)

@@ -4,13 +4,13 @@ use Rattle.play.specs.Steps.{GoesOn, totals_of}
 use Rattle.play.proofs.playing.play_rest.Given as goal
 
 abbrev pub invariant-loop-place : goal.invariant-loop-place
-invariant-loop-place l =
-    GoesOn l.file l.initial.place l.initial.record (state_of l.initial.day.live) (totals_of l.initial.day.ledger) l.initial.out l.initial.page l.place l.record (state_of l.day.live) (totals_of l.day.ledger) l.out l.page
-    × (length l.report ≡ 512)
-    × (l.page.used ≤ 32768 * l.record)
-    × (4 * l.record ≤ l.place)
-    × (l.place ≤ length l.file)
-    × (1 ≤ l.record)
+invariant-loop-place l = record {
+  goes_on : GoesOn l.file l.initial.place l.initial.record (state_of l.initial.day.live) (totals_of l.initial.day.ledger) l.initial.page l.place l.record (state_of l.day.live) (totals_of l.day.ledger) l.page;
+  report : length l.report ≡ 512;
+  records : 4 * l.record ≤ l.place;
+  inside : l.place ≤ length l.file;
+  started : 1 ≤ l.record;
+}
 
 abbrev pub decreases-loop-place : goal.decreases-loop-place
 decreases-loop-place l = length l.file - l.place

@@ -1,7 +1,0 @@
-use Rattle.std.proofs.Common.{◌+◌, ◌*◌, ◌≤◌, map, take}
-use Rattle.play.specs.Pages.{Wrote}
-use Rattle.play.specs.declared.line.Line.TheVariants.{Row}
-use Rattle.play.proofs.printing.print_rows.Given as goal
-
-abbrev pub invariant-loop-row : goal.invariant-loop-row
-invariant-loop-row l = Wrote (map Row (take l.row-index l.rows)) l.initial.out l.initial.printed l.out l.printed × (l.printed.used ≤ l.initial.printed.used + 64 * l.row-index)
