@@ -85,7 +85,7 @@ more_fills n xs ys b =
 -- an instruction keeps the balance
 kept : (r : Run) (i : Instruction) → Balanced r.ledger r.lines → Balanced (followed r i).ledger (followed r i).lines
 kept r (Make m) b =
-    let o = cond (may_make m.unit m.prior_close m.tag) None (Some BadField) in
+    let o = cond (may_make m) None (Some BadField) in
     same_fills r.ledger r.lines (r.lines ++ refused_line (r.count + 1) o)
     (fills_append r.lines (refused_line (r.count + 1) o) ∙ ap (λ l. fills_in r.lines ++ fills_of l) (no_rows (r.count + 1) o) ∙ append-nil (fills_in r.lines)) b
 kept r (CallOf c) b =

@@ -64,7 +64,7 @@ refused_few k None = omega arith
 refused_few k (Some e) = omega arith
 
 record_few : (r : Run) (i : Instruction) → length (followed r i).lines ≤ length r.lines + 512
-record_few r (Make m) = simp length-append (omega (arith, refused_few (r.count + 1) (cond (may_make m.unit m.prior_close m.tag) None (Some BadField))))
+record_few r (Make m) = simp length-append (omega (arith, refused_few (r.count + 1) (cond (may_make m) None (Some BadField))))
 record_few r (CallOf c) =
     let o = refusal_of r.day c 512 r.ledger.places in
     let few = call_few (rows_of r.day c) (r.count + 1) o (enough (is_closed r.day.figures.phase) (field_refusal r.day c) (rows_of r.day c) 512 r.ledger.places) in

@@ -16,6 +16,7 @@ use Rattle.rules.specs.declared.call.Call.TheVariants as a
 use Rattle.day.specs.Days.{fresh_figures, may_make, refused_figures}
 use Rattle.dayfile.specs.declared.entry.Entry.{Entry}
 use Rattle.dayfile.specs.declared.entry.Entry.TheVariants.{Start, Clock, Order, Cancel, Quote, Opening, Trade, Close}
+use Rattle.rules.specs.declared.call.NewDay.{NewDay}
 use Rattle.play.specs.declared.instruction.Instruction.{Instruction}
 use Rattle.play.specs.declared.instruction.Instruction.TheVariants.{Make, Call as CallOf}
 use Rattle.play.specs.declared.line.Line.{Line}
@@ -72,12 +73,12 @@ unmade =
     }
 
 -- a day is made, or its making is refused
-abbrev pub making : Run → ℕ → ℕ → ℕ → Run
-making r unit prior tag =
+abbrev pub making : Run → NewDay → Run
+making r m =
     record {
-      day = record { figures = cond (may_make unit prior tag) (fresh_figures unit prior tag) refused_figures; book = [] };
+      day = record { figures = cond (may_make m) (fresh_figures m) refused_figures; book = [] };
       ledger = r.ledger;
-      lines = r.lines ++ refused_line (r.count + 1) (cond (may_make unit prior tag) None (Some BadField));
+      lines = r.lines ++ refused_line (r.count + 1) (cond (may_make m) None (Some BadField));
       count = r.count + 1;
     }
 
@@ -96,7 +97,7 @@ abbrev pub called : Run → Call → Run
 called r c = answered r c (refusal_of r.day c 512 r.ledger.places)
 
 abbrev pub followed : Run → Instruction → Run
-followed r (Make m) = making r m.unit m.prior_close m.tag
+followed r (Make m) = making r m
 followed r (CallOf c) = called r c
 
 -- the play of some records

@@ -3,7 +3,8 @@ use Rattle.std.specs.Prelude.{◌≡◌, ℕ, ◌+◌, ◌≤◌, List, [], ◌�
 use Rattle.std.specs.Borrow.{MutBor}
 use Rattle.market.specs.declared.refusal.Refusal.{Refusal}
 use Rattle.market.specs.declared.refusal.Refusal.TheVariants.{OutputShort}
-use Rattle.ledger.specs.Posting.{Numbers, numbers}
+use Rattle.ledger.specs.Opening.{totals_numbers}
+use Rattle.ledger.specs.Posting.{Numbers}
 use Rattle.ledger.specs.declared.totals.Totals.{Totals}
 use Rattle.book.specs.declared.row.Row.{Row}
 use Rattle.rules.specs.Machine.{after_call, fills_of, refusal_of, rows_of}
@@ -23,7 +24,7 @@ use Rattle.play.specs.declared.page.Page.{Page}
 
 -- the three numbers of a totals ledger
 abbrev pub totals_of : Totals → Numbers
-totals_of t = numbers (λ x. x.shares) (λ x. x.money) (λ x. x.left) t
+totals_of t = totals_numbers t
 
 -- the answer of a call that has no rows
 abbrev pub no_rows : {T : Type 0} → Result T Refusal → Result ℕ Refusal

@@ -17,14 +17,12 @@ fn make_call(day: &mut Day<Totals>, call: Call, report: &mut [Row]) -> Result<us
     ensures { Done call (state_of day.old.live) report.old (totals_of day.old.ledger) result (state_of day.new.live) report.new (totals_of day.new.ledger) }
 {
     match call {
-        Call::Order(new) => day
-            .order(new.side, new.kind, new.shares, new.limit, new.stop)
-            .map(|_| 0),
+        Call::Order(new) => day.order(new).map(|_| 0),
         Call::Cancel(number) => day.cancel(number).map(|_| 0),
-        Call::Quote(new) => day.quote(new.bid, new.offer).map(|_| 0),
+        Call::Quote(new) => day.quote(new).map(|_| 0),
         Call::Clock(time) => day.clock(time, report),
-        Call::Opening(new) => day.opening(new.price, new.volume, report),
-        Call::Trade(new) => day.trade(new.price, new.volume, report),
+        Call::Opening(new) => day.opening(new, report),
+        Call::Trade(new) => day.trade(new, report),
         Call::Close => day.close(report),
     }
 }

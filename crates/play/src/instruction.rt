@@ -2,20 +2,12 @@
 ghost use Rattle.std.specs.Prelude.{◌≡◌};
 
 use dayfile::entry::Entry;
-use rules::call::{Call, NewOrder, NewQuote, NewSale};
-
-// What a start gives.
-#[derive(Clone, Copy)]
-pub struct Making {
-    pub unit: u32,
-    pub prior_close: u32,
-    pub tag: u32,
-}
+use rules::call::{Call, NewDay, NewOrder, NewQuote, NewSale};
 
 // A start makes the day, and every other record is a call.
 #[derive(Clone, Copy)]
 pub enum Instruction {
-    Make(Making),
+    Make(NewDay),
     Call(Call),
 }
 
@@ -30,7 +22,7 @@ impl From<Entry> for Instruction {
                 unit,
                 prior_close,
                 tag,
-            } => Instruction::Make(Making {
+            } => Instruction::Make(NewDay {
                 unit,
                 prior_close,
                 tag,

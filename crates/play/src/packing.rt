@@ -3,7 +3,6 @@ ghost use Rattle.std.specs.Prelude.{◌≡◌, ◌^◌, ◌<◌};
 ghost use Rattle.play.specs.Endings.{end_number, packed};
 
 use crate::ending::Ending;
-use market::numbered::Numbered;
 use market::refusal::Refusal;
 
 // The number of what ended the lines early, or 0.
@@ -12,7 +11,7 @@ fn end_number(end: Result<(), Refusal>) -> u32
 {
     match end {
         Ok(()) => 0,
-        Err(refusal) => refusal.number(),
+        Err(refusal) => u32::from(refusal),
     }
 }
 

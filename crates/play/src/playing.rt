@@ -6,7 +6,7 @@ ghost use Rattle.play.specs.Steps.{Opened, PlayedOn, RestPlayed, totals_of};
 ghost use Rattle.play.specs.declared.instruction.Instruction.TheVariants.{Make};
 
 use crate::calls::play_call;
-use crate::instruction::{Instruction, Making};
+use crate::instruction::Instruction;
 use crate::line::Line;
 use crate::page::Page;
 use book::book::Book;
@@ -17,20 +17,13 @@ use dayfile::reading::record_at;
 use ledger::posting::Ledger;
 use ledger::start::Start;
 use ledger::totals::Totals;
-use market::mark::Mark;
-use market::side::Side;
+use rules::call::NewDay;
 
 // A report of 512 places.
 fn blank_report() -> [Row; 512]
     ensures { length result ≡ 512 }
 {
-    [Row {
-        number: 0,
-        side: Side::Buy,
-        shares: 0,
-        price: 0,
-        mark: Mark::Lapse,
-    }; 512]
+    [Row::blank(); 512]
 }
 
 // A totals ledger at zero.
@@ -42,16 +35,10 @@ fn zero_totals() -> Totals
 }
 
 // Makes the day that a start asks for. Where the making is refused, the day is closed, and that is printed.
-fn open_day(book: Book, making: Making, page: &mut Page<'_>) -> Day<Totals>
+fn open_day(book: Book, making: NewDay, page: &mut Page<'_>) -> Day<Totals>
     ensures { Opened (Make making) page.old (state_of result.live) (totals_of result.ledger) page.new }
 {
-    let (day, made) = Day::new(
-        book,
-        zero_totals(),
-        making.unit,
-        making.prior_close,
-        making.tag,
-    );
+    let (day, made) = Day::new(book, zero_totals(), making);
     if let Err(reason) = made {
         page.print(Line::Refused { record: 1, reason });
     }

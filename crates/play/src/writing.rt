@@ -7,7 +7,6 @@ use crate::line::Line;
 use arrayvec::ArrayString;
 use book::row::Row;
 use itoa::{Buffer, Integer};
-use market::numbered::Numbered;
 
 // A number in decimal, and the character that ends it.
 fn push_number<N: Integer>(text: &mut ArrayString<64>, n: N, end: char)
@@ -27,10 +26,10 @@ fn row_text(row: Row) -> ArrayString<64>
 {
     let mut text = ArrayString::new();
     push_number(&mut text, row.number, ' ');
-    push_number(&mut text, row.side.number(), ' ');
+    push_number(&mut text, u32::from(row.side), ' ');
     push_number(&mut text, row.shares, ' ');
     push_number(&mut text, row.price, ' ');
-    push_number(&mut text, row.mark.number(), '\n');
+    push_number(&mut text, u32::from(row.mark), '\n');
     text
 }
 
@@ -56,9 +55,9 @@ impl Line {
     {
         match self {
             Line::Row(row) => row_text(row),
-            Line::Refused { record, reason } => letter_text('R', record, reason.number()),
+            Line::Refused { record, reason } => letter_text('R', record, u32::from(reason)),
             Line::Total { shares, money } => letter_text('T', shares, money),
-            Line::Fault(fault) => letter_text('X', fault.place, fault.reason.number()),
+            Line::Fault(fault) => letter_text('X', fault.place, u32::from(fault.reason)),
         }
     }
 }
