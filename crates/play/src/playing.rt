@@ -14,6 +14,7 @@ use book::row::Row;
 use day::live::Day;
 use dayfile::fault::Fault;
 use dayfile::reading::record_at;
+use dayfile::records::Records;
 use ledger::posting::Ledger;
 use ledger::start::Start;
 use ledger::totals::Totals;
@@ -58,18 +59,15 @@ fn play_rest(
     ensures { RestPlayed file.now first (state_of day.old.live) (totals_of day.old.ledger) page.old result page.new }
 {
     let mut report = blank_report();
-    let mut place = first;
     let mut record: u32 = 1;
-    // a place is known only once the record before it is read, so no range counts the records
-    while place < file.len() {
-        let found = record_at(file, place)?;
+    for found in Records::new(file, first) {
+        let found = found?;
         record += 1;
         let Instruction::Call(call) = Instruction::from(found.record.entry()) else {
             // only the first record of a file is a start
             unreachable()
         };
         play_call(day, call, record, &mut report, page);
-        place += found.record.part().len();
     }
     Ok(Line::Total {
         shares: day.ledger().shares(),
