@@ -1,4 +1,4 @@
-use Rattle.std.proofs.Common.{◌+◌, ◌<◌, ◌++◌, length, take, drop, sym, ap, ◌∙◌, arith, take_all}
+use Rattle.std.proofs.Common.{◌+◌, ◌<◌, ◌++◌, length, take, drop, sym, ap, ◌∙◌, arith}
 use Rattle.std.proofs.lemmas.List.{length_push}
 use Rattle.book.specs.Passes.{rows_by}
 use Rattle.book.proofs.Rows.{rows_room, rows_more_yes, rows_more_no, write_more}
@@ -35,10 +35,3 @@ loop-order-preserved g c =
           let same = rows_more_no f xs i c.loop-order-test.true at in
           (rw (w.report-is, w.n-is, same) l.invariant.0, rw (w.n-is, same) l.invariant.1, omega (arith, w.n-is))
     ]
-
-pub returns : goal.returns
-returns g c =
-    let f = g.P.Pass.leaves c.args.pass.now in
-    let l = c.loop-order in
-    let all = ap (rows_by f) (take_all l.order-index c.args.orders.now c.loop-order-test.false) in
-    l.invariant.0 ∙ ap (λ m. rows_by f (take l.order-index c.args.orders.now) ++ drop m c.args.report.now) l.invariant.1 ∙ ap (λ rows. rows ++ drop (length rows) c.args.report.now) all

@@ -21,9 +21,3 @@ loop-row-preserved g c =
     let at = g.L.Ledger.numbers in
     let l = c.loop-row in
     posted_more c.args.rows.now l.row-index (at c.args.ledger.now) (at l.ledger) (at c.post_row.new.ledger) c.loop-row-test.true l.invariant c.post_row.ensures
-
-pub returns : goal.returns
-returns g c =
-    let at = g.L.Ledger.numbers in
-    let l = c.loop-row in
-    subst (λ (xs : List Row). PostedOnce (at c.args.ledger.now) (fills_of xs) (at l.ledger)) (take_all l.row-index c.args.rows.now c.loop-row-test.false) l.invariant

@@ -1,6 +1,6 @@
-use Rattle.std.proofs.Common.{◌≡◌, ℕ, ◌-◌, ◌<◌, ◌≤◌, length, get_or, take, count_by, ap, ◌∙◌, arith}
+use Rattle.std.proofs.Common.{◌≡◌, ℕ, ◌-◌, ◌<◌, length, get_or, take, count_by, ap, ◌∙◌, arith}
 use Rattle.ledger.specs.Law.{fits, judged, no_posting}
-use Rattle.ledger.proofs.Laws.{adds_more, adds_all, places_more, judged_more, kept_more}
+use Rattle.ledger.proofs.Laws.{adds_more, places_more, judged_more, kept_more}
 use Rattle.ledger.proofs.post_all.post_all.Goals as goal
 
 pub loop-posting-preserved : goal.loop-posting-preserved
@@ -19,13 +19,3 @@ loop-posting-preserved g c =
           (c.post_one.ensures.answer ∙ ap (λ p. judged p (get_or l.postings i no_posting)) l.invariant.1 ∙ ap (judged (left i)) same),
       kept_more xs l.postings i c.post_one.new.posting l.invariant.3,
     )
-
-pub returns : goal.returns
-returns g c =
-    let at = g.L.Ledger.numbers in
-    let l = c.loop-posting in
-    let through : length l.postings ≤ l.posting-index = omega arith in
-    record {
-      outcomes = λ k h. l.invariant.2 k (omega arith);
-      law = adds_all (at c.args.ledger.now) (at l.ledger) l.postings l.posting-index through l.invariant.0;
-    }

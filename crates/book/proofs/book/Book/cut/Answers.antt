@@ -1,5 +1,4 @@
-use Rattle.std.proofs.Common.{◌≡◌, ◌+◌, true, ltb, get_or, sym, ap, ◌∙◌, arith}
-use Rattle.std.proofs.lemmas.List.Sums.{sum_by_more}
+use Rattle.std.proofs.Common.{◌≡◌, ◌+◌, true, ltb, get_or, sym, ap, ◌∙◌}
 use Rattle.book.specs.Orders.{no_order, rises}
 use Rattle.book.specs.Sales.{ahead}
 use Rattle.book.proofs.Ahead.{weight, cut_at, cut_none}
@@ -14,14 +13,6 @@ returns-then-sum-limit c =
     let v : c.from-sum.result ≡ weight c.args.sale.now c.args.which (get_or xs l.order-index no_order) = cc in
     let at = cut_at c.args.sale.now xs c.args.which c.args.limit l.sum c.from-sum.result l.order-index rising c.loop-order-test.true l.invariant.0 v l.invariant.2 c.if-sum-limit.true in
     λ n. ap (λ book. ltb (ahead c.args.sale.now book c.args.which n) c.args.limit) (sym here) ∙ at n ∙ ap (λ m. ltb n (m + 1)) (sym c.from.ensures)
-
-pub loop-order-preserved : goal.loop-order-preserved
-loop-order-preserved c =
-    let l = c.loop-order in
-    let xs = c.orders-order-items.result.now in
-    let v : c.from-sum.result ≡ weight c.args.sale.now c.args.which (get_or xs l.order-index no_order) = cc in
-    let more = sum_by_more (weight c.args.sale.now c.args.which) xs l.order-index no_order c.loop-order-test.true in
-    (omega (arith, more, v), omega arith, omega arith, omega arith)
 
 pub returns : goal.returns
 returns c =

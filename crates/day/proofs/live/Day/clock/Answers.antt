@@ -11,6 +11,3 @@ returns-in_err-may_tick g c =
     let p = err_from_is_err_and c.from_residual.result c.from_residual.ensures.1 in
     rw (p.1, p.2)
     (step_early (Clock c.args.time) (state_of d.live) c.args.report.now (g.L.Ledger.numbers d.ledger) _ (refused_by _ _ c.in_err-may_tick.ensures))
-
-pub tick-requires : goal.tick-requires
-tick-requires g c = allowed_by _ c.in_ok-may_tick.ensures
