@@ -1,9 +1,6 @@
-use Rattle.std.proofs.Common.{List, subst, take_all}
 use Rattle.book.specs.Orders.{no_row}
-use Rattle.book.specs.declared.row.Row.{Row}
 use Rattle.book.proofs.Ahead.{pass_at}
-use Rattle.rules.specs.Machine.{fills_of, is_posted_well}
-use Rattle.rules.specs.Steps.{PostedOnce}
+use Rattle.rules.specs.Machine.{is_posted_well}
 use Rattle.day.proofs.Postings.{posted_more, room_more}
 use Rattle.day.proofs.posting.post_rows.Goals as goal
 

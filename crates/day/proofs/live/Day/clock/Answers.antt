@@ -2,7 +2,7 @@ use Rattle.std.proofs.lemmas.Result.{err_from_is_err_and}
 use Rattle.rules.proofs.Stepping.{step_early}
 use Rattle.rules.specs.declared.call.Call.TheVariants.{Clock}
 use Rattle.day.specs.Days.{state_of}
-use Rattle.day.proofs.Answering.{allowed_by, refused_by}
+use Rattle.day.proofs.Answering.{refused_by}
 use Rattle.day.proofs.live.Day.clock.Goals as goal
 
 pub returns-in_err-may_tick : goal.returns-in_err-may_tick
