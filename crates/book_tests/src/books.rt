@@ -30,15 +30,13 @@ fn lawful_orders(rt: HostRuntime) -> Result<(), Fail> {
         (Kind::StopLimit, 1, 1, 0, false),
         (Kind::StopLimit, 1, 0, 1, false),
     ];
-    let mut number = 1u32;
-    for (kind, shares, limit, stop, good) in table {
+    for (number, (kind, shares, limit, stop, good)) in (1..).zip(table) {
         let answer = book.enter(order(number, Side::Buy, kind, shares, limit, stop));
         if good {
             assert_eq!(rt; answer, Ok(()));
         } else {
             assert_eq!(rt; answer, Err(Refusal::BadField));
         }
-        number = number.saturating_add(1);
     }
     assert_eq!(rt; book.orders().len(), 6);
     Ok(())
