@@ -51,7 +51,7 @@ fn new_order(figures: &Figures, new: NewOrder) -> Result<Order, Refusal>
     }
 }
 
-// A price as a quote call gives it.
+// A price as a quote call gives it: 0 where it is missing, which is no `NonZeroU32` yet, since any number may come.
 fn price_or_none(price: u32) -> Option<u32>
     ensures { result ≡ price_or_none price }
 {

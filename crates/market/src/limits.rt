@@ -1,4 +1,5 @@
-// The limits of the fields. Each test is the range of the same name in specs/.
+// The limits of the fields. Each test is the range of the same name in specs/. Ranges that differ only in their ends stay
+// functions of their own: one function over two numbers would no longer say which field is meant.
 ghost use Rattle.std.specs.Prelude.{◌≡◌};
 ghost use Rattle.market.specs.Limits.{is_price, is_time, is_unit, is_odd_lot, is_volume, is_tag, has_live_room, has_accepted_room, is_postable};
 

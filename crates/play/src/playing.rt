@@ -59,6 +59,7 @@ fn play_rest(
     ensures { RestPlayed file.now first (state_of day.old.live) (totals_of day.old.ledger) page.old result page.new }
 {
     let mut report = blank_report();
+    // Counted beside the records: zipped with the numbers from 2, each step would have to show that they do not run out.
     let mut record: u32 = 1;
     for found in Records::new(file, first) {
         let found = found?;
