@@ -15,11 +15,6 @@ kept_agree h p q (x ∷ xs) all same =
     let parts = and_parts (h x) (list_all h xs) all in
     ap (λ b. cond b (x ∷ filter p xs) (filter p xs)) (same x parts.0) ∙ ap (λ l. cond (q x) (x ∷ l) l) (kept_agree h p q xs parts.1 same)
 
-pub kept_same : {X : Type 0} (p q : X → Bool) (xs : List X) → ((x : X) → p x ≡ q x) → filter p xs ≡ filter q xs
-kept_same p q [] same = refl
-kept_same p q (x ∷ xs) same =
-    ap (λ b. cond b (x ∷ filter p xs) (filter p xs)) (same x) ∙ ap (λ l. cond (q x) (x ∷ l) l) (kept_same p q xs same)
-
 -- the order has fewer than `limit` shares before it, where `sum` shares stand before the list
 abbrev pub fewer : ℕ → ℕ → List Order → Order → Bool
 fewer limit sum xs o = ltb (sum + shares_in (filter (λ y. ltb y.number o.number) xs)) limit

@@ -15,7 +15,9 @@ use Rattle.book.specs.declared.order.Order.{Order}
 use Rattle.book.specs.declared.sale.RoundLot.{RoundLot}
 use Rattle.book.proofs.Ahead.{ahead_is, weight}
 use Rattle.book.proofs.Books.{rises_kept}
-use Rattle.book.proofs.Runs.{fewer, fewer_run, kept_same, run, run_front, run_reached, run_whole}
+use Rattle.std.proofs.Math.Bool.{and_comm}
+use Rattle.std.proofs.lemmas.List.Elements.{filter_agree}
+use Rattle.book.proofs.Runs.{fewer, fewer_run, run, run_front, run_reached, run_whole}
 
 -- one test after another
 kept_and : {X : Type 0} (a b : X → Bool) (xs : List X) → filter b (filter a xs) ≡ filter (λ x. a x && b x) xs
@@ -25,14 +27,8 @@ kept_and a b (x ∷ xs) =
     elim (a x) as (λ t. filter b (cond t (x ∷ filter a xs) (filter a xs)) ≡ cond (t && b x) (x ∷ filter (λ y. a y && b y) xs) (filter (λ y. a y && b y) xs))
     [ true ↦ ap (λ l. cond (b x) (x ∷ l) l) rest | false ↦ rest ]
 
-and_comm : (a b : Bool) → a && b ≡ b && a
-and_comm true true = refl
-and_comm true false = refl
-and_comm false true = refl
-and_comm false false = refl
-
 kept_swap : {X : Type 0} (a b : X → Bool) (xs : List X) → filter a (filter b xs) ≡ filter b (filter a xs)
-kept_swap a b xs = kept_and b a xs ∙ kept_same (λ x. b x && a x) (λ x. a x && b x) xs (λ x. and_comm (b x) (a x)) ∙ sym (kept_and a b xs)
+kept_swap a b xs = kept_and b a xs ∙ filter_agree (λ x. b x && a x) (λ x. a x && b x) (λ x. and_comm (b x) (a x)) xs ∙ sym (kept_and a b xs)
 
 pub sum_same : {X : Type 0} (f g : X → ℕ) → ((x : X) → f x ≡ g x) → (xs : List X) → sum_by f xs ≡ sum_by g xs
 sum_same f g same [] = refl
@@ -82,7 +78,7 @@ filled_test s book which trade o =
 pub filled_run : (s : RoundLot) (book : List Order) (which : MarketSide) → rises book ≡ true → s.opening ≡ false → filled_on s book which ≡ run (reach s book) 0 (eligible_on s book which)
 filled_run s book which up trade =
     let here : Order → Bool = λ o. eligible s o && on which o in
-    kept_same (λ o. filled s book o && on which o) (λ o. here o && fewer (reach s book) 0 (eligible_on s book which) o) book (filled_test s book which trade)
+    filter_agree (λ o. filled s book o && on which o) (λ o. here o && fewer (reach s book) 0 (eligible_on s book which) o) (filled_test s book which trade) book
     ∙ sym (kept_and here (fewer (reach s book) 0 (eligible_on s book which)) book)
     ∙ fewer_run (reach s book) 0 (eligible_on s book which) (rises_kept here book up)
 

@@ -23,7 +23,8 @@ impl Book {
             .count()
     }
 
-    // Writes the rows of a pass to a report, from its first place on, or refuses where they do not fit.
+    // Writes the rows of a pass to a report, from its first place on, or refuses where they do not fit. A report is a slice of
+    // the caller's, and the answer a count of it, since no call allocates.
     pub fn report<P: Pass>(&self, pass: &P, report: &mut [Row]) -> Result<usize, Refusal>
         ensures { Reported (rows_by (P.leaves pass.now) (orders_of self.now)) report.old result report.new }
     {

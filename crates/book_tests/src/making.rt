@@ -45,13 +45,7 @@ pub(crate) fn trade(price: u32, volume: u32) -> RoundLot {
 
 // A report list of 512 places.
 pub(crate) fn report() -> [Row; 512] {
-    [Row {
-        number: 0,
-        side: Side::Buy,
-        shares: 0,
-        price: 0,
-        mark: Mark::Lapse,
-    }; 512]
+    [Row::blank(); 512]
 }
 
 // A row's number, shares, price and mark.

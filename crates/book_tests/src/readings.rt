@@ -208,8 +208,8 @@ fn the_close_fills_and_lapses(rt: HostRuntime) -> Result<(), Fail> {
         .ok_or("refused")?;
     assert_eq!(rt; n, 5);
     check_row(&rt, &rows[0], 1, 1, 200_100, Mark::Offer);
-    for k in 1..5 {
-        assert_eq!(rt; rows[k].price, 0);
+    for row in &rows[1..5] {
+        assert_eq!(rt; row.price, 0);
     }
     assert_eq!(rt; book.orders().len(), 0);
     Ok(())

@@ -4,7 +4,7 @@ use Rattle.std.specs.List.{list_all}
 use Rattle.market.specs.declared.refusal.Refusal.{Refusal}
 use Rattle.ledger.specs.Posting.{Numbers}
 use Rattle.book.specs.Passes.{rows_by, stays_by}
-use Rattle.book.specs.Sales.{elect, sale_row, sale_rows}
+use Rattle.book.specs.Sales.{after_sale, elect, sale_row, sale_rows}
 use Rattle.book.specs.declared.order.Order.{Order}
 use Rattle.book.specs.declared.sale.RoundLot.{RoundLot}
 use Rattle.book.specs.declared.row.Row.{Row}
@@ -16,10 +16,10 @@ use Rattle.rules.specs.declared.call.Call.{Call}
 use Rattle.rules.specs.declared.figures.Figures.{Figures}
 use Rattle.rules.proofs.Fitting.{pass_weaker}
 use Rattle.rules.proofs.Stepping.{step_done, step_late}
-use Rattle.day.specs.Calls.{Carried, Done, SoldOn, early_refusal}
+use Rattle.day.specs.Calls.{Carried, CarriedOut, SoldOn, early_refusal}
 
 -- a call whose rows were reported and posted, or for which there was no room
-pub done_step : (c : Call) (s after : State) (rows report : List Row) (n : Numbers) (r : Result ℕ Refusal) (t : State) (reported : List Row) (m : Numbers) → early_refusal s c ≡ None → rows ≡ rows_of s c → length (rows_of s c) ≡ reply_of s c → after ≡ after_call s c → Done rows (λ x. x ≡ after) s report n r t reported m → Step c s report n r t reported m
+pub done_step : (c : Call) (s after : State) (rows report : List Row) (n : Numbers) (r : Result ℕ Refusal) (t : State) (reported : List Row) (m : Numbers) → early_refusal s c ≡ None → rows ≡ rows_of s c → length (rows_of s c) ≡ reply_of s c → after ≡ after_call s c → CarriedOut rows (λ x. x ≡ after) s report n r t reported m → Step c s report n r t reported m
 done_step c s after rows report n (Ok k) t reported m early same reply is h =
     step_done c s report reported n m k t early
     (sym (ap (λ l. room_refusal l (length report) n.places) same) ∙ h.0)
@@ -48,3 +48,9 @@ sold_done sale s leaves report n k t u reported m rows stays h e = (
       ∙ ap (λ (xs : List Order). record { figures = after_round_lot sale s.figures; book = map (elect sale.price) xs }) stays,
   subst (λ (l : List Row). PostedOnce n (fills_of l) m) rows h.4,
 )
+
+-- an opening or a trade, from the sale that it gives
+pub sale_step : (c : Call) (s : State) (x sale : RoundLot) (report : List Row) (n : Numbers) (r : Result ℕ Refusal) (t : State) (reported : List Row) (m : Numbers) → early_refusal s c ≡ None → x ≡ sale → sale_rows sale s.book ≡ rows_of s c → length (rows_of s c) ≡ reply_of s c → record { figures = after_round_lot sale s.figures; book = after_sale sale s.book } ≡ after_call s c → SoldOn x s report n r t reported m → Step c s report n r t reported m
+sale_step c s x sale report n r t reported m early is rows reply after h =
+    done_step c s (record { figures = after_round_lot sale s.figures; book = after_sale sale s.book }) (sale_rows sale s.book) report n r t reported m early rows reply after
+    (subst (λ (y : RoundLot). SoldOn y s report n r t reported m) is h)

@@ -40,27 +40,27 @@ MayCancel s number (Err e) = early_refusal s (Cancel number) ≡ Some e
 
 -- rows are reported and posted, and `gets` holds of what they came from; or, for want of places in the report or in the
 -- ledger, nothing at all is done
-abbrev pub Done : {S : Type 0} → List Row → (S → Type 0) → S → List Row → Numbers → Result ℕ Refusal → S → List Row → Numbers → Type 0
-Done rows gets before report n (Ok k) after reported m =
+abbrev pub CarriedOut : {S : Type 0} → List Row → (S → Type 0) → S → List Row → Numbers → Result ℕ Refusal → S → List Row → Numbers → Type 0
+CarriedOut rows gets before report n (Ok k) after reported m =
     (room_refusal rows (length report) n.places ≡ None)
     × (k ≡ length rows)
     × (reported ≡ rows ++ drop (length rows) report)
     × gets after
     × PostedOnce n (fills_of rows) m
-Done rows gets before report n (Err e) after reported m =
+CarriedOut rows gets before report n (Err e) after reported m =
     (room_refusal rows (length report) n.places ≡ Some e) × (after ≡ before) × (reported ≡ report) × (m ≡ n)
 
 -- a pass is carried out on a book: its orders are taken out
 abbrev pub Settled : (Order → Option Row) → Book → List Row → Numbers → Result ℕ Refusal → Book → List Row → Numbers → Type 0
 Settled leaves before report n r after reported m =
-    Done (rows_by leaves (orders_of before)) (λ b. (orders_of b ≡ stays_by leaves (orders_of before)) × (b.unit ≡ before.unit)) before report n r after reported m
+    CarriedOut (rows_by leaves (orders_of before)) (λ b. (orders_of b ≡ stays_by leaves (orders_of before)) × (b.unit ≡ before.unit)) before report n r after reported m
 
 -- a pass is carried out on a day, which has new figures then
 abbrev pub Carried : (Order → Option Row) → Figures → State → List Row → Numbers → Result ℕ Refusal → State → List Row → Numbers → Type 0
 Carried leaves f s report n r t reported m =
-    Done (rows_by leaves s.book) (λ x. x ≡ record { figures = f; book = stays_by leaves s.book }) s report n r t reported m
+    CarriedOut (rows_by leaves s.book) (λ x. x ≡ record { figures = f; book = stays_by leaves s.book }) s report n r t reported m
 
 -- a sale is carried out on a day
 abbrev pub SoldOn : RoundLot → State → List Row → Numbers → Result ℕ Refusal → State → List Row → Numbers → Type 0
 SoldOn sale s report n r t reported m =
-    Done (sale_rows sale s.book) (λ x. x ≡ record { figures = after_round_lot sale s.figures; book = after_sale sale s.book }) s report n r t reported m
+    CarriedOut (sale_rows sale s.book) (λ x. x ≡ record { figures = after_round_lot sale s.figures; book = after_sale sale s.book }) s report n r t reported m

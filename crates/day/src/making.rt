@@ -55,7 +55,8 @@ impl Live {
 }
 
 impl<L: Ledger> Day<L> {
-    // Makes a day above a ledger. A refused making gives a closed day that still holds the ledger, untouched.
+    // Makes a day above a ledger. A refused making gives a closed day that still holds the ledger, untouched: that is a rule, so
+    // the answer stands beside the day.
     pub fn new(book: Book, ledger: L, new: NewDay) -> (Day<L>, Result<(), Refusal>)
         ensures made { Made new result.1 (state_of result.0.live) }
         ensures closed { MadeClosed result.1 (state_of result.0.live) }

@@ -51,7 +51,8 @@ fn new_order(figures: &Figures, new: NewOrder) -> Result<Order, Refusal>
     }
 }
 
-// A price as a quote call gives it: 0 where it is missing, which is no `NonZeroU32` yet, since any number may come.
+// A price as a quote call gives it, 0 where it is missing. A function, since the rule's 0 is said here and no conversion of
+// std makes an `Option` of a number.
 fn price_or_none(price: u32) -> Option<u32>
     ensures { result ≡ price_or_none price }
 {

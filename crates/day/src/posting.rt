@@ -16,7 +16,7 @@ pub(crate) fn is_fill(mark: Mark) -> bool
     mark != Mark::Lapse
 }
 
-// What a row says to a ledger.
+// What a row says to a ledger. No `From`, since both types are other crates'.
 fn fill_of(row: &Row) -> Fill
     ensures { result ≡ fill_of row.now }
 {

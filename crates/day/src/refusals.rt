@@ -59,8 +59,8 @@ fn check_sale(figures: &Figures, sale: NewSale) -> Result<(), Refusal>
     }
 }
 
-// One function for each call: over `Call`, an order and a cancel would be looked up twice, since their checks give what they
-// find.
+// One function for each call. Over `Call`, an order and a cancel would be looked up twice, since their checks give what they
+// find; and one function for these four would be told by its caller which refusals the phases have, and which check.
 impl Live {
     // Whether a quote call may be carried out, or why not.
     pub(crate) fn may_quote(&self, quote: NewQuote) -> Result<(), Refusal>

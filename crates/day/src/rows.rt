@@ -148,7 +148,7 @@ impl<L: Ledger> Day<L> {
         Ok(n)
     }
 
-    // The first sale of the day, which opens it.
+    // The first sale of the day, which opens it. An opening and a trade stay two calls of two lines: they differ in the check.
     pub fn opening(&mut self, new: NewSale, report: &mut [Row]) -> Result<usize, Refusal>
         ensures { Stepped L.numbers (Opening new) self.old report.old result self.new report.new }
     {

@@ -15,7 +15,7 @@ pub fn count_records(file: &[u8]) -> Result<usize, Fault>
     }
     // The start is read apart: where the file has no bytes, it is cut.
     let start = record_at(file, 0)?;
-    // Counted by hand: `?` leaves the loop at a fault, which `count` would pass over.
+    // Counted by hand: `?` leaves the loop at a fault, which `count` would pass over, and a `try_fold` would hide in a closure.
     let mut count = 1;
     for found in Records::new(file, start.record.part().len()) {
         found?;

@@ -17,15 +17,23 @@ const FILE: [u8; 64] = [
 
 const LINES: &[u8] = b"1 1 9 200000 2\n2 1 9 200000 2\n3 1 5 199900 2\nR 9 9\nT -23 4599500\n";
 
-// The file played into the first bytes of 70, by each of the three entries: how it ends, the number for C, and what the
-// bytes hold then.
+// The file played into the first bytes of 70, by each of the three entries, which write the same: how it ends, the number
+// for C, and what the bytes hold then.
 fn played(rt: &impl Abort, heap: Global, room: usize) -> Result<(Ending, u64, Vec<u8>), Fail> {
     let mut out = vec![in heap; b'.'; 70]?;
-    let bytes = out.as_mut_slice();
-    assert!(rt; room <= bytes.len());
-    let ending = play_into(Book::reserve(heap)?, &FILE, &mut bytes[0..room]);
-    assert_eq!(rt; play(heap, &FILE, &mut bytes[0..room])?, ending);
-    let answer = odd_lot_play(heap, &FILE, &mut bytes[0..room]);
+    let mut own = vec![in heap; b'.'; 70]?;
+    let mut host = vec![in heap; b'.'; 70]?;
+    assert!(rt; room <= 70);
+    let ending = play_into(
+        Book::reserve(heap)?,
+        &FILE,
+        &mut out.as_mut_slice()[0..room],
+    );
+    let again = play(heap, &FILE, &mut own.as_mut_slice()[0..room])?;
+    let answer = odd_lot_play(heap, &FILE, &mut host.as_mut_slice()[0..room]);
+    assert_eq!(rt; again, ending);
+    assert_eq!(rt; own.as_slice(), out.as_slice());
+    assert_eq!(rt; host.as_slice(), out.as_slice());
     Ok((ending, answer, out))
 }
 
@@ -48,7 +56,12 @@ fn outputs(rt: HostRuntime) -> Result<(), Fail> {
     for (room, written, number) in table {
         let (ending, answer, out) = played(&rt, rt.alloc(), room)?;
         assert_eq!(rt; ending.written, written);
-        assert_eq!(rt; ending.end.is_ok(), number == 0);
+        let end = if number == 0 {
+            Ok(())
+        } else {
+            Err(Refusal::OutputShort)
+        };
+        assert_eq!(rt; ending.end, end);
         assert_eq!(rt; answer / 32, written as u64);
         assert_eq!(rt; answer % 32, number);
         let bytes = out.as_slice();
@@ -68,6 +81,7 @@ fn refused_start(rt: HostRuntime) -> Result<(), Fail> {
         0xc0, 0, 0, 11, 0xd0, 0, 0, 1, 0xe0, 0, 0, 1, 0x10, 0, 0, 0, 0xb0, 0, 0,
     ];
     let mut out = [0; 24];
+    let mut host = [0; 24];
     let whole = play_into(Book::reserve(rt.alloc())?, &file[0..16], &mut out);
     assert_eq!(rt;
         whole,
@@ -76,8 +90,9 @@ fn refused_start(rt: HostRuntime) -> Result<(), Fail> {
             end: Ok(())
         }
     );
-    assert_eq!(rt; odd_lot_play(rt.alloc(), &file[0..16], &mut out), 18 * 32);
+    assert_eq!(rt; odd_lot_play(rt.alloc(), &file[0..16], &mut host), 18 * 32);
     assert!(rt; out.starts_with(b"R 1 4\nR 2 1\nT 0 0\n"));
+    assert_eq!(rt; host, out);
     let cut = play_into(Book::reserve(rt.alloc())?, &file, &mut out);
     assert_eq!(rt;
         cut,
@@ -86,7 +101,8 @@ fn refused_start(rt: HostRuntime) -> Result<(), Fail> {
             end: Err(Refusal::FileCut)
         }
     );
-    assert_eq!(rt; odd_lot_play(rt.alloc(), &file, &mut out), 20 * 32 + 16);
+    assert_eq!(rt; odd_lot_play(rt.alloc(), &file, &mut host), 20 * 32 + 16);
     assert!(rt; out.starts_with(b"R 1 4\nR 2 1\nX 16 16\n"));
+    assert_eq!(rt; host, out);
     Ok(())
 }

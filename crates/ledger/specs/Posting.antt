@@ -9,7 +9,8 @@ use Rattle.ledger.specs.declared.fill.Fill.{Fill}
 use Rattle.market.specs.declared.refusal.Refusal.{Refusal}
 use Rattle.market.specs.declared.refusal.Refusal.TheVariants.{BadField, LedgerFull}
 
--- a ledger's meaning: the specialist's shares, his money, and the postings that it will still take
+-- a ledger's meaning: the specialist's shares, his money in ten-thousandths of a dollar, and the postings that it will
+-- still take
 pub record Numbers : Type 0 where
   pub shares : ℤ
   pub money : ℤ

@@ -6,7 +6,8 @@ ghost use Rattle.ledger.specs.Posting.{Numbers, Posted};
 use crate::fill::Fill;
 use market::refusal::Refusal;
 
-// A ledger means three numbers: the specialist's shares, his money, and the postings that it will still take.
+// A ledger means three numbers: the specialist's shares, his money in ten-thousandths of a dollar, and the postings that it
+// will still take. Each ledger writes its own `post`: a shared body could not promise what the journal promises beside.
 pub trait Ledger {
     ghost numbers: { Self → Numbers };
 

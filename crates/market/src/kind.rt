@@ -3,7 +3,7 @@ ghost use Rattle.std.specs.Prelude.{◌≡◌, Some};
 ghost use Rattle.market.specs.Names.{kind_name};
 ghost use Rattle.market.specs.Terms.{Reads, has_limit, has_stop, kind_number};
 
-use crate::numbered::UnknownNumber;
+use crate::numbered::{Numbered, UnknownNumber};
 use std::fmt;
 
 #[derive(Clone, Copy, PartialEq, Eq, Debug)]
@@ -58,6 +58,14 @@ impl TryFrom<u32> for Kind {
             _ => Err(UnknownNumber(n)),
         }
     }
+}
+
+impl Numbered for Kind {
+    ghost number = { kind_number };
+
+    ghost counts = { λ _ _ h. h };
+
+    ghost reads = { λ _ _ h. h };
 }
 
 impl fmt::Display for Kind {

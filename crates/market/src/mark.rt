@@ -2,7 +2,7 @@
 ghost use Rattle.std.specs.Prelude.{◌≡◌};
 ghost use Rattle.market.specs.Terms.{Reads, mark_number};
 
-use crate::numbered::UnknownNumber;
+use crate::numbered::{Numbered, UnknownNumber};
 
 #[derive(Clone, Copy, PartialEq, Eq, Debug)]
 pub enum Mark {
@@ -38,4 +38,12 @@ impl TryFrom<u32> for Mark {
             _ => Err(UnknownNumber(n)),
         }
     }
+}
+
+impl Numbered for Mark {
+    ghost number = { mark_number };
+
+    ghost counts = { λ _ _ h. h };
+
+    ghost reads = { λ _ _ h. h };
 }

@@ -3,7 +3,7 @@ ghost use Rattle.std.specs.Prelude.{◌≡◌};
 ghost use Rattle.market.specs.Terms.{Reads, refusal_number};
 ghost use Rattle.market.specs.declared.refusal.Refusal.TheVariants.{BadField};
 
-use crate::numbered::UnknownNumber;
+use crate::numbered::{Numbered, UnknownNumber};
 
 #[derive(Clone, Copy, PartialEq, Eq, Debug)]
 pub enum Refusal {
@@ -81,6 +81,14 @@ impl TryFrom<u32> for Refusal {
             _ => Err(UnknownNumber(n)),
         }
     }
+}
+
+impl Numbered for Refusal {
+    ghost number = { refusal_number };
+
+    ghost counts = { λ _ _ h. h };
+
+    ghost reads = { λ _ _ h. h };
 }
 
 // A number that no term has is a bad field, so that `?` refuses it.

@@ -3,7 +3,7 @@ ghost use Rattle.std.specs.Prelude.{◌≡◌, Some};
 ghost use Rattle.market.specs.Names.{side_name};
 ghost use Rattle.market.specs.Terms.{Reads, side_number, market_side};
 
-use crate::numbered::UnknownNumber;
+use crate::numbered::{Numbered, UnknownNumber};
 use std::fmt;
 
 #[derive(Clone, Copy, PartialEq, Eq, Debug)]
@@ -53,6 +53,14 @@ impl TryFrom<u32> for Side {
             _ => Err(UnknownNumber(n)),
         }
     }
+}
+
+impl Numbered for Side {
+    ghost number = { side_number };
+
+    ghost counts = { λ _ _ h. h };
+
+    ghost reads = { λ _ _ h. h };
 }
 
 impl fmt::Display for Side {

@@ -66,7 +66,7 @@ pub fn shares_where<T: Sided, C: Test<T>>(records: &[T], which: MarketSide, test
     let first = &records[0..records.len().min(65_536)];
     let mut sum: u64 = 0;
     for record in first {
-        sum += tested_share(record, which, test) as u64;
+        sum += u64::from(tested_share(record, which, test));
     }
     sum
 }

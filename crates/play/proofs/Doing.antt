@@ -10,7 +10,7 @@ use Rattle.rules.specs.States.{State, is_closed}
 use Rattle.rules.specs.Steps.{Step, quiet}
 use Rattle.rules.specs.declared.call.Call.{Call}
 use Rattle.rules.proofs.Stepping.{quiet_anywhere, step_accepted, step_refused}
-use Rattle.play.specs.Steps.{Done, no_rows}
+use Rattle.play.specs.Steps.{Done}
 
 -- a call that is not refused has a place for each row
 not_full : (full : Bool) (o : Option Refusal) → cond full (Some ReportFull) o ≡ None → full ≡ false
@@ -33,7 +33,7 @@ row_done c s report n (Err e) t reported m reply h =
     let a = step_refused c s report n e t reported m h in (a.why, a.state, a.rows, a.ledger)
 
 -- a call without rows
-pub quiet_done : (c : Call) (s : State) (report : List Row) (n : Numbers) (r : Result ℕ Refusal) (t : State) (m : Numbers) → rows_of s c ≡ [] → Step c s [] n r t [] m → Done c s report n (no_rows r) t report m
+pub quiet_done : (c : Call) (s : State) (report : List Row) (n : Numbers) (r : Result ℕ Refusal) (t : State) (m : Numbers) → rows_of s c ≡ [] → Step c s [] n r t [] m → Done c s report n (quiet r) t report m
 quiet_done c s report n (Ok k) t m none h =
     let a = step_accepted c s [] n k t [] m h in (
       sym (quiet_anywhere c s (length report) n.places none) ∙ a.none,
@@ -46,7 +46,7 @@ quiet_done c s report n (Err e) t m none h =
     let a = step_refused c s [] n e t [] m h in (sym (quiet_anywhere c s (length report) n.places none) ∙ a.why, a.state, refl, a.ledger)
 
 -- a call that answers nothing but its acceptance
-pub quiet_none : (r : Result (Unit {0}) Refusal) → no_rows (quiet r) ≡ no_rows r
+pub quiet_none : (r : Result (Unit {0}) Refusal) → quiet (quiet r) ≡ quiet r
 quiet_none (Ok x) = refl
 quiet_none (Err e) = refl
 
@@ -55,7 +55,7 @@ pub row_made : (a c : Call) (s : State) (report : List Row) (n : Numbers) (r : R
 row_made a c s report n r t reported m is reply h =
     subst (λ (x : Call). Done x s report n r t reported m) (sym is) (row_done c s report n r t reported m reply h)
 
-pub quiet_made : (a c : Call) (s : State) (report : List Row) (n : Numbers) (r answer : Result ℕ Refusal) (t : State) (m : Numbers) → a ≡ c → answer ≡ no_rows r → rows_of s c ≡ [] → Step c s [] n r t [] m → Done a s report n answer t report m
+pub quiet_made : (a c : Call) (s : State) (report : List Row) (n : Numbers) (r answer : Result ℕ Refusal) (t : State) (m : Numbers) → a ≡ c → answer ≡ quiet r → rows_of s c ≡ [] → Step c s [] n r t [] m → Done a s report n answer t report m
 quiet_made a c s report n r answer t m is e none h =
     subst (λ (x : Call). Done x s report n answer t report m) (sym is)
     (subst (λ (x : Result ℕ Refusal). Done c s report n x t report m) (sym e) (quiet_done c s report n r t m none h))

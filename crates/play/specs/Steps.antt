@@ -12,6 +12,8 @@ use Rattle.rules.specs.States.{State}
 use Rattle.rules.specs.Steps.{PostedOnce}
 use Rattle.rules.specs.declared.call.Call.{Call}
 use Rattle.play.specs.Pages.{Printed, Wrote}
+use Rattle.day.specs.Days.{state_of}
+use Rattle.day.specs.declared.live.Day.{Day}
 use Rattle.dayfile.specs.Files.{Begins, FileReads}
 use Rattle.dayfile.specs.declared.entry.Entry.{Entry}
 use Rattle.dayfile.specs.declared.fault.Fault.{Fault}
@@ -21,15 +23,6 @@ use Rattle.play.specs.declared.ending.Ending.{Ending}
 use Rattle.play.specs.declared.instruction.Instruction.{Instruction}
 use Rattle.play.specs.declared.line.Line.{Line}
 use Rattle.play.specs.declared.page.Page.{Page}
-
--- the three numbers of a totals ledger
-abbrev pub totals_of : Totals → Numbers
-totals_of t = totals_numbers t
-
--- the answer of a call that has no rows
-abbrev pub no_rows : {T : Type 0} → Result T Refusal → Result ℕ Refusal
-no_rows (Ok x) = Ok 0
-no_rows (Err e) = Err e
 
 -- a call is carried out, with so many rows; or refused
 abbrev pub Done : Call → State → List Row → Numbers → Result ℕ Refusal → State → List Row → Numbers → Type 0
@@ -42,6 +35,10 @@ Done c s report n (Ok k) t reported m =
 Done c s report n (Err e) t reported m =
     (refusal_of s c (length report) n.places ≡ Some e) × (t ≡ s) × (reported ≡ report) × PostedOnce n [] m
 
+-- a call of a day above a totals ledger
+abbrev pub CallDone : Call → Day Totals → List Row → Result ℕ Refusal → Day Totals → List Row → Type 0
+CallDone c d report r e reported = Done c (state_of d.live) report (totals_numbers d.ledger) r (state_of e.live) reported (totals_numbers e.ledger)
+
 -- the player stands where the run does
 pub record At (r : Run) (lent : MutBor (List ℕ)) (s : State) (n : Numbers) (p : Page) : Type 0 where
   pub day : s ≡ r.day
@@ -52,9 +49,15 @@ pub record At (r : Run) (lent : MutBor (List ℕ)) (s : State) (n : Numbers) (p 
 abbrev pub Advanced : Call → ℕ → State → Numbers → Page → State → Numbers → Page → Type 0
 Advanced c k s n p t m q = (r : Run) (lent : MutBor (List ℕ)) → k ≡ r.count + 1 → At r lent s n p → At (called r c) lent t m q
 
+abbrev pub CallPlayed : Call → ℕ → Day Totals → Page → Day Totals → Page → Type 0
+CallPlayed c k d p e q = Advanced c k (state_of d.live) (totals_numbers d.ledger) p (state_of e.live) (totals_numbers e.ledger) q
+
 -- the start takes the player, whose page is empty, to where the run is after it
 abbrev pub Opened : Instruction → Page → State → Numbers → Page → Type 0
 Opened i p s n q = (lent : MutBor (List ℕ)) → Printed lent [] p → At (followed unmade i) lent s n q
+
+abbrev pub DayOpened : Instruction → Page → Day Totals → Page → Type 0
+DayOpened i p d q = Opened i p (state_of d.live) (totals_numbers d.ledger) q
 
 -- the player has played the first records of a file, up to a place after them
 pub record Reached (file : List ℕ) (es : List Entry) (place k : ℕ) (lent : MutBor (List ℕ)) (s : State) (n : Numbers) (p : Page) : Type 0 where
@@ -80,6 +83,9 @@ PlayedOn file p r q = (lent : MutBor (List ℕ)) → Printed lent [] p → FileP
 abbrev pub RestPlayed : List ℕ → ℕ → State → Numbers → Page → Result Line Fault → Page → Type 0
 RestPlayed file place s n p r q =
     (lent : MutBor (List ℕ)) (es : List Entry) → Reached file es place 1 lent s n p → FilePlayed file lent r q
+
+abbrev pub DayPlayed : List ℕ → ℕ → Day Totals → Page → Result Line Fault → Page → Type 0
+DayPlayed file place d p r q = RestPlayed file place (state_of d.live) (totals_numbers d.ledger) p r q
 
 -- the last line is printed behind the others, and the play ends with 18 where a line is cut off, else as it would without that
 pub record Finished (last : Line) (end : Result (Unit {0}) Refusal) (p q : Page) (ending : Ending) : Type 0 where

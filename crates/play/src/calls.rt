@@ -1,7 +1,6 @@
 // Calls of a day, made and printed.
 ghost use Rattle.std.specs.Prelude.{◌≡◌, length};
-ghost use Rattle.day.specs.Days.{state_of};
-ghost use Rattle.play.specs.Steps.{Advanced, Done, totals_of};
+ghost use Rattle.play.specs.Steps.{CallDone, CallPlayed};
 
 use crate::line::Line;
 use crate::page::Page;
@@ -14,7 +13,7 @@ use rules::call::Call;
 // Makes a call, and answers how many rows it has.
 #[tactic(auto, using(crate::proofs::Doing::row_made))]
 fn make_call(day: &mut Day<Totals>, call: Call, report: &mut [Row]) -> Result<usize, Refusal>
-    ensures { Done call (state_of day.old.live) report.old (totals_of day.old.ledger) result (state_of day.new.live) report.new (totals_of day.new.ledger) }
+    ensures { CallDone call day.old report.old result day.new report.new }
 {
     match call {
         Call::Order(new) => day.order(new).map(|_| 0),
@@ -36,7 +35,7 @@ pub(crate) fn play_call(
     page: &mut Page<'_>,
 )
     requires { length report.old ≡ 512 }
-    ensures { Advanced call «record» (state_of day.old.live) (totals_of day.old.ledger) page.old (state_of day.new.live) (totals_of day.new.ledger) page.new }
+    ensures { CallPlayed call «record» day.old page.old day.new page.new }
 {
     match make_call(day, call, report) {
         Ok(n) => page.print_rows(&report[..n]),

@@ -4,7 +4,8 @@ ghost use Rattle.std.specs.Prelude.{◌≡◌};
 use dayfile::entry::Entry;
 use rules::call::{Call, NewDay, NewOrder, NewQuote, NewSale};
 
-// A start makes the day, and every other record is a call.
+// A start makes the day, and every other record is a call. What a record says stays a type apart from the day's calls: the
+// reader of files knows no day.
 #[derive(Clone, Copy)]
 pub enum Instruction {
     Make(NewDay),

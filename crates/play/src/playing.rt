@@ -1,8 +1,8 @@
 // A file played record by record.
 ghost use Rattle.std.specs.Prelude.{◌≡◌, ◌≤◌, length};
-ghost use Rattle.day.specs.Days.{state_of};
+ghost use Rattle.ledger.specs.Opening.{totals_numbers};
 ghost use Rattle.play.specs.Runs.{unmade};
-ghost use Rattle.play.specs.Steps.{Opened, PlayedOn, RestPlayed, totals_of};
+ghost use Rattle.play.specs.Steps.{DayOpened, DayPlayed, PlayedOn};
 ghost use Rattle.play.specs.declared.instruction.Instruction.TheVariants.{Make};
 
 use crate::calls::play_call;
@@ -29,7 +29,7 @@ fn blank_report() -> [Row; 512]
 
 // A totals ledger at zero.
 fn zero_totals() -> Totals
-    ensures { totals_of result ≡ unmade.ledger }
+    ensures { totals_numbers result ≡ unmade.ledger }
 {
     let (start, _) = Start::new(0, 0);
     Totals::new(&start)
@@ -37,7 +37,7 @@ fn zero_totals() -> Totals
 
 // Makes the day that a start asks for. Where the making is refused, the day is closed, and that is printed.
 fn open_day(book: Book, making: NewDay, page: &mut Page<'_>) -> Day<Totals>
-    ensures { Opened (Make making) page.old (state_of result.live) (totals_of result.ledger) page.new }
+    ensures { DayOpened (Make making) page.old result page.new }
 {
     let (day, made) = Day::new(book, zero_totals(), making);
     if let Err(reason) = made {
@@ -56,10 +56,10 @@ fn play_rest(
     requires inside { first ≤ length file.now }
     requires short { length file.now ≤ 65536 }
     requires past { 4 ≤ first }
-    ensures { RestPlayed file.now first (state_of day.old.live) (totals_of day.old.ledger) page.old result page.new }
+    ensures { DayPlayed file.now first day.old page.old result page.new }
 {
     let mut report = blank_report();
-    // Counted beside the records: zipped with the numbers from 2, each step would have to show that they do not run out.
+    // Counted beside the records: `enumerate` counts from 0 and in usize, where a record's number counts from 2 and in u32.
     let mut record: u32 = 1;
     for found in Records::new(file, first) {
         let found = found?;

@@ -33,7 +33,7 @@ pub record Step (c : Call) (s : State) (report : List Row) (n : Numbers) (r : Re
   pub state : t ≡ state_by (refusal_of s c (length report) n.places) (after_call s c) s
   pub ledger : PostedOnce n (fills_of (rows_if (refusal_of s c (length report) n.places) (rows_of s c))) m
 
--- the answer of a call that answers nothing but its acceptance
-abbrev pub quiet : Result (Unit {0}) Refusal → Result ℕ Refusal
+-- the answer of a call of which only the acceptance counts
+abbrev pub quiet : {X : Type 0} → Result X Refusal → Result ℕ Refusal
 quiet (Ok _) = Ok 0
 quiet (Err e) = Err e

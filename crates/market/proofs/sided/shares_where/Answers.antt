@@ -6,7 +6,7 @@ use Rattle.market.proofs.sided.shares_where.Goals as goal
 pub loop-record-preserved : goal.loop-record-preserved
 loop-record-preserved g c =
     let m = g.T.Sided in
-    (omega arith, omega arith, sum_more (λ x. cond (g.C.Test.passes c.args.test.now x) (shares_on c.args.which (m.side x) (m.shares x)) 0) _ _ _ _ c.record-item.result c.loop-record-test.true c.loop-record.invariant.2 c.record-item.is c.tested_share.ensures)
+    (omega arith, omega arith, sum_more (λ x. cond (g.C.Test.passes c.args.test.now x) (shares_on c.args.which (m.side x) (m.shares x)) 0) _ _ _ _ c.record-item.result c.loop-record-test.true c.loop-record.invariant.2 c.record-item.is (c.from-sum.ensures ∙ c.tested_share.ensures))
 
 pub returns : goal.returns
 returns g c =

@@ -3,9 +3,10 @@ use Rattle.std.proofs.lemmas.Result.{err_from_is_err_and}
 use Rattle.dayfile.specs.Files.{too_long}
 use Rattle.dayfile.specs.Records.{entry_of, part_of}
 use Rattle.dayfile.proofs.Filed.{reads_first}
+use Rattle.ledger.specs.Opening.{totals_numbers}
 use Rattle.day.specs.Days.{state_of}
 use Rattle.play.specs.Runs.{followed, instruction_of, unmade}
-use Rattle.play.specs.Steps.{At, totals_of}
+use Rattle.play.specs.Steps.{At}
 use Rattle.play.specs.declared.instruction.Instruction.{Instruction}
 use Rattle.play.specs.declared.instruction.Instruction.TheVariants.{Make}
 use Rattle.play.proofs.Reaching.{reached_first}
@@ -26,5 +27,5 @@ returns c lent pg =
     let stands = c.in_ok-start.ensures.0 in
     let size : length c.part.result.now ≡ length (part_of x) = ap length c.part.ensures in
     let is : instruction_of (entry_of x) ≡ Make c.in-Make.making = sym (c.in-Make.ensures ∙ ap instruction_of c.entry.ensures) in
-    let at = subst (λ (i : Instruction). At (followed unmade i) lent (state_of c.open_day-day.result.live) (totals_of c.open_day-day.result.ledger) c.open_day-day.new.page) (sym is) (c.open_day-day.ensures lent pg) in
+    let at = subst (λ (i : Instruction). At (followed unmade i) lent (state_of c.open_day-day.result.live) (totals_numbers c.open_day-day.result.ledger) c.open_day-day.new.page) (sym is) (c.open_day-day.ensures lent pg) in
     c.play_rest.ensures lent (entry_of x ∷ []) (reached_first c.args.file.now lent _ _ _ x _ (omega arith) stands size at)
