@@ -8,7 +8,7 @@ use market::side::Side;
 use other_ledgers::four_sums::FourSums;
 use other_ledgers::no_places::NoPlaces;
 
-// A fill of these fields, to be posted.
+// A fill of these fields, to be posted. The walkthrough has a helper like it: it and the tests share no crate of helpers.
 fn posting(side: Side, shares: u32, price: u32) -> Posting {
     Posting::from(Fill {
         side,

@@ -13,7 +13,7 @@ use market::refusal::Refusal;
 use market::side::Side;
 use std::io;
 
-// A fill of these fields, to be posted.
+// A fill of these fields, to be posted. The tests have a helper like it: they and this program share no crate of helpers.
 fn posting(side: Side, shares: u32, price: u32) -> Posting {
     Posting::from(Fill {
         side,

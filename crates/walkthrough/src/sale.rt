@@ -8,7 +8,7 @@ use market::refusal::Refusal;
 use market::side::Side;
 use std::io;
 
-// An order that came at time 0.
+// An order that came at time 0. The book's tests have a helper like it, for the same reason as that of `posting`.
 fn order(number: u32, side: Side, kind: Kind, shares: u32, limit: u32, stop: u32) -> Order {
     Order {
         number,
