@@ -9,7 +9,7 @@ use crate::book::Book;
 use crate::pass::Pass;
 use crate::row::Row;
 use crate::sale::RoundLot;
-use crate::settle::{elect_all, write};
+use crate::settle::{count, elect_all, write};
 use market::refusal::Refusal;
 
 impl Book {
@@ -17,10 +17,7 @@ impl Book {
     pub fn count<P: Pass>(&self, pass: &P) -> usize
         ensures { result ≡ length (rows_by (P.leaves pass.now) (orders_of self.now)) }
     {
-        self.orders()
-            .iter()
-            .filter_map(|order| pass.row(order))
-            .count()
+        count(self.orders(), pass)
     }
 
     // Writes the rows of a pass to a report, from its first place on, or refuses where they do not fit. A report is a slice of

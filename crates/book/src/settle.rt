@@ -1,4 +1,4 @@
-// What passes and elections are made of: rows written, stops elected.
+// What passes and elections are made of: rows counted and written, stops elected.
 ghost use Rattle.std.specs.Prelude.{◌≡◌, ◌≤◌, ◌++◌, map, length, drop, vec_capacity};
 ghost use Rattle.book.specs.Passes.{rows_by};
 ghost use Rattle.book.specs.Sales.{elect as elect_at};
@@ -8,6 +8,13 @@ use crate::pass::Pass;
 use crate::row::Row;
 use market::kind::Kind;
 use market::side::MarketSide;
+
+// How many rows a pass has.
+pub(crate) fn count<P: Pass>(orders: &[Order], pass: &P) -> usize
+    ensures { result ≡ length (rows_by (P.leaves pass.now) orders.now) }
+{
+    orders.iter().filter_map(|order| pass.row(order)).count()
+}
 
 // Writes the rows of a pass from the report's first place on.
 pub(crate) fn write<P: Pass>(orders: &[Order], pass: &P, report: &mut [Row])

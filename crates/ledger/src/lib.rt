@@ -2,6 +2,7 @@
 #![tactic(auto)]
 
 mod amounts;
+pub mod apart;
 pub mod fill;
 pub mod journal;
 pub mod journal_ledger;

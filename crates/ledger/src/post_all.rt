@@ -12,7 +12,7 @@ fn post_one<L: Ledger>(ledger: &mut L, posting: &mut Posting)
     ensures law { AddsUp (L.numbers ledger.old) (posting.new ∷ []) (L.numbers ledger.new) }
 {
     let answer = ledger.post(posting.fill);
-    posting.answer = Some(answer);
+    posting.note(answer);
 }
 
 // Posts each of a list in turn, and notes in it what became of each.

@@ -11,6 +11,10 @@ use market::refusal::Refusal;
 pub trait Ledger {
     ghost numbers: { Self → Numbers };
 
+    // Each ledger proves that its shares and its money lie within 4 × 10^18, either way. This stands above the functions, where
+    // it is data and no law, so that a caller of a `dyn Ledger` has it too.
+    ghost bounded: { (x : Self) → Bounded (numbers x) };
+
     // Posts a customer's fill: a buy lowers the shares and raises the money, a sell the reverse.
     fn post(&mut self, fill: Fill) -> Result<(), Refusal>
         ensures { Posted fill (numbers self.old) result (numbers self.new) };
@@ -23,7 +27,4 @@ pub trait Ledger {
 
     fn places(&self) -> usize
         ensures { result ≡ (numbers self.now).places };
-
-    // A law: each ledger proves that its shares and its money lie within 4 × 10^18, either way.
-    ghost bounded: { (x : Self) → Bounded (numbers x) };
 }

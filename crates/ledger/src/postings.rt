@@ -1,5 +1,5 @@
 // A list of postings, each with what became of it.
-ghost use Rattle.std.specs.Prelude.{◌≡◌, None};
+ghost use Rattle.std.specs.Prelude.{◌≡◌, Some, None};
 
 use crate::fill::Fill;
 use market::refusal::Refusal;
@@ -9,6 +9,15 @@ use market::refusal::Refusal;
 pub struct Posting {
     pub fill: Fill,
     pub answer: Option<Result<(), Refusal>>,
+}
+
+impl Posting {
+    // Notes the answer of a ledger.
+    pub(crate) fn note(&mut self, answer: Result<(), Refusal>)
+        ensures { self.new ≡ record { fill = self.old.fill; answer = Some answer } }
+    {
+        self.answer = Some(answer);
+    }
 }
 
 impl From<Fill> for Posting {

@@ -5,3 +5,4 @@ pub mod Reaching
 pub mod Balance
 pub mod Bounded
 pub mod Finishing
+pub mod Packed

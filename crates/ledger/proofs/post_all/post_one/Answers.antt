@@ -1,3 +1,6 @@
+use Rattle.std.proofs.Common.{[], ◌∷◌, sym, subst}
+use Rattle.ledger.specs.Law.{AddsUp}
+use Rattle.ledger.specs.declared.postings.Posting.{Posting}
 use Rattle.ledger.proofs.Laws.{adds_one, places_fall}
 use Rattle.ledger.proofs.post_all.post_one.Goals as goal
 
@@ -9,5 +12,5 @@ returns g c =
     record {
       answer = cc;
       places = places_fall c.args.posting.now before after c.post-answer.result c.post-answer.ensures;
-      law = adds_one c.args.posting.now before after c.post-answer.result c.post-answer.ensures;
+      law = subst (λ (x : Posting). AddsUp before (x ∷ []) after) (sym c.note.ensures) (adds_one c.args.posting.now before after c.post-answer.result c.post-answer.ensures);
     }
