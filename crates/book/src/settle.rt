@@ -9,7 +9,8 @@ use crate::row::Row;
 use market::kind::Kind;
 use market::side::MarketSide;
 
-// How many rows a pass has.
+// How many rows a pass has. It stands beside the method that calls it: were the chain the method's own body, an edit that
+// halves the method's answer would be refused for its form alone.
 pub(crate) fn count<P: Pass>(orders: &[Order], pass: &P) -> usize
     ensures { result ≡ length (rows_by (P.leaves pass.now) orders.now) }
 {
