@@ -1,4 +1,5 @@
 // Starts, posts and exhausted journals.
+use ledger::apart::apart;
 use ledger::fill::Fill;
 use ledger::journal::Journal;
 use ledger::posting::Ledger;
@@ -104,6 +105,29 @@ fn posts(rt: HostRuntime) {
         Err(Refusal::LedgerFull)
     );
     check_numbers(&rt, &journal, -98, 19_799_999_999, 0);
+}
+
+// Ledgers of two kinds, from the two ends of what a start may be. A customer buys 60 shares at 200,000, which is 12,000,000.
+#[test]
+fn far_apart(rt: HostRuntime) {
+    let (high, _) = Start::new(MOST_SHARES, MOST_MONEY);
+    let (low, _) = Start::new(-MOST_SHARES, -MOST_MONEY);
+    let mut totals = Totals::new(&high);
+    let mut rows = [JournalRow::blank(); 2];
+    let journal = Journal::new(&mut rows, &low);
+    assert_eq!(rt;
+        apart(&totals, &journal),
+        (2_000_000_000, 200_000_000_000_000_000)
+    );
+    assert_eq!(rt; totals.post(fill(Side::Buy, 60, 200_000)), Ok(()));
+    assert_eq!(rt;
+        apart(&totals, &journal),
+        (1_999_999_940, 200_000_000_012_000_000)
+    );
+    assert_eq!(rt;
+        apart(&journal, &totals),
+        (-1_999_999_940, -200_000_000_012_000_000)
+    );
 }
 
 // Fills a journal over so many rows: it takes as many postings as it has places, and leaves the later rows alone.
